@@ -1,0 +1,2 @@
+// The layers round a unit, of any make and any pile of layers; each is again a unit.
+pub mod turn;

@@ -1,0 +1,43 @@
+ghost use mathlib.Core.Path.{_≡_};
+ghost use Prim.Native.Nat.{_≤_};
+ghost use lib.IntN.{natAbs};
+ghost use Rattle.layers.specs.Turns.{turned-pulse, turned-number};
+ghost use Rattle.unit.specs.Sizes.{largest};
+use unit::pulse::Pulse;
+
+pub mod steps;
+
+// Which way round the unit in a turn layer stands.
+#[derive(Clone, Copy, PartialEq, Eq, Debug)]
+pub enum Sense {
+    Upright,
+    Inverted,
+}
+
+impl Sense {
+    fn turn_pulse(self, pulse: Pulse) -> Pulse
+        ensures { λ r. ⌜ r ≡ turned-pulse self pulse ⌝ }
+    {
+        match self {
+            Sense::Upright => pulse,
+            Sense::Inverted => pulse.opposite(),
+        }
+    }
+
+    fn turn_number(self, number: i64) -> i64
+        requires { ⌜ natAbs number ≤ largest ⌝ }
+        ensures { λ r. ⌜ r ≡ turned-number self number ⌝ }
+    {
+        match self {
+            Sense::Upright => number,
+            Sense::Inverted => -number,
+        }
+    }
+}
+
+// The turn layer: upright it passes everything; inverted it negates pulse, weight and residue.
+#[derive(Clone, Copy, PartialEq, Eq, Debug, Drop)]
+pub struct Turn<U> {
+    sense: Sense,
+    below: U,
+}

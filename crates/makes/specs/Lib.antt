@@ -1,0 +1,3 @@
+pub mod Integrators
+pub mod Limits
+pub mod Servos
