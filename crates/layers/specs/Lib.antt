@@ -1,1 +1,2 @@
+pub mod Dividers
 pub mod Turns

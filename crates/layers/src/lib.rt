@@ -1,2 +1,3 @@
 // The layers round a unit, of any make and any pile of layers; each is again a unit.
+pub mod divider;
 pub mod turn;

@@ -36,7 +36,7 @@ impl Sense {
 }
 
 // The turn layer: upright it passes everything; inverted it negates pulse, weight and residue.
-#[derive(Clone, Copy, PartialEq, Eq, Debug, Drop)]
+#[derive(Copy, PartialEq, Eq, Debug, Drop)]
 pub struct Turn<U> {
     sense: Sense,
     below: U,

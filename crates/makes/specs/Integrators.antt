@@ -1,8 +1,7 @@
 -- The integrator of length n: modulus 2 ^ n, band from 0, range from -2 ^ n to 2 ^ n; its weight is its position.
 use Prim.Native.Nat.{ℕ, _≤_, _^_}
 use lib.IntN.{ℤ, pos, negℤ}
-use Rattle.unit.specs.Figures.{Constants, Figures, Inside}
-use Rattle.unit.specs.Solutions.{InBand}
+use Rattle.unit.specs.Figures.{Constants, Figures, Inside, Banded}
 use Rattle.makes.specs.Limits.{longest}
 use Rattle.makes.specs.declared.integrator.Integrator.{Integrator}
 
@@ -17,7 +16,7 @@ pub record Allowed (n : ℕ) (p r : ℤ) : Type 0 where
   pub shortest : 1 ≤ n
   pub longest : n ≤ longest
   pub position : Inside (constants-of n) p
-  pub residue : InBand (2 ^ n) (pos 0) r
+  pub residue : Banded (constants-of n) r
 
 abbrev pub meaning : Integrator → Figures
 meaning a = integrator (a .length) (a .position) (a .residue)

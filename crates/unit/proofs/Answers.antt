@@ -1,12 +1,13 @@
 -- What a lawful unit answers is never larger than the largest modulus that is told.
 use mathlib.Core.Bool.{Bool, true, false, cond}
+use mathlib.Core.Logic.{⊎-elim}
 use mathlib.Core.Path.{_≡_, refl}
-use Prim.Native.Nat.{ℕ, _≤_}
+use Prim.Native.Nat.{ℕ, _≤_, _<_}
 use native.Mathlib.Omega.{arith}
 use lib.Dec.{leb}
 use lib.IntN.{ℤ, pos, natAbs}
 use Rattle.std.proofs.shelf.Signed.{ints}
-use Rattle.std.proofs.shelf.Ways.{tells}
+use Rattle.std.proofs.shelf.Ways.{tells, leb-tells}
 use Rattle.unit.specs.Figures.{Figures, Lawful, weight-now, told-residue, told-modulus}
 use Rattle.unit.specs.Sizes.{largest}
 
@@ -27,3 +28,14 @@ told-short false m r h = omega arith
 
 pub told-residue-short : (f : Figures) → Lawful f → natAbs (told-residue f) ≤ largest
 told-residue-short f law = told-short (leb (f .constants .modulus) largest) largest (f .residue) (λ e. residue-short f law (grind (arith, tells)))
+
+-- a modulus that is told is told as it is, and so is the residue
+pub told : (f : Figures) → f .constants .modulus ≤ largest → (told-modulus f ≡ f .constants .modulus) × (told-residue f ≡ f .residue)
+told f h = let e : leb (f .constants .modulus) largest ≡ true = grind (arith, tells) in (rw e, rw e)
+
+pub untold : (f : Figures) → largest < f .constants .modulus → (told-modulus f ≡ 0) × (told-residue f ≡ pos 0)
+untold f h = let e : leb (f .constants .modulus) largest ≡ false = grind (arith, tells) in (rw e, rw e)
+
+-- the one or the other
+pub told-or-not : (f : Figures) {P : Type 0} → (f .constants .modulus ≤ largest → P) → (largest < f .constants .modulus → P) → P
+told-or-not f yes-told not-told = ⊎-elim (λ t. yes-told (t .1)) (λ t. not-told (t .1)) (leb-tells (f .constants .modulus) largest)

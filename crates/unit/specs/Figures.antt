@@ -25,10 +25,17 @@ pub record Figures : Type 0 where
   pub position : ℤ
   pub residue : ℤ
 
+pub record Between (bottom top p : ℤ) : Type 0 where
+  pub above : bottom ≤ℤ p
+  pub below : p ≤ℤ top
+
 -- the position p is in the range
-pub record Inside (k : Constants) (p : ℤ) : Type 0 where
-  pub above : k .bottom ≤ℤ p
-  pub below : p ≤ℤ k .top
+abbrev pub Inside : Constants → ℤ → Type 0
+Inside k p = Between (k .bottom) (k .top) p
+
+-- the residue r is in the band
+abbrev pub Banded : Constants → ℤ → Type 0
+Banded k r = InBand (k .modulus) (k .low) r
 
 -- the bounds that hold of the figures of every unit
 pub record Lawful (f : Figures) : Type 0 where
@@ -40,7 +47,7 @@ pub record Lawful (f : Figures) : Type 0 where
   pub light : (p : ℤ) → Inside (f .constants) p → natAbs (f .constants .weight p) ≤ f .constants .modulus
   pub short : (p : ℤ) → Inside (f .constants) p → natAbs (f .constants .weight p) ≤ largest
   pub position : Inside (f .constants) (f .position)
-  pub residue : InBand (f .constants .modulus) (f .constants .low) (f .residue)
+  pub residue : Banded (f .constants) (f .residue)
 
 -- An accepted step with the x pulse x and the tally s takes the figures f to g and emits z: the position moves by
 -- the tally, and pulse and residue are the only ones that balance the weight at the new position.

@@ -5,6 +5,9 @@ ghost use Rattle.unit.specs.Figures.{Figures, Lawful, Stepped, Inside, weight-
 use crate::pulse::Pulse;
 use crate::tally::Tally;
 
+// The largest modulus that a unit tells.
+pub const LARGEST: u64 = 4_294_967_296;
+
 // A unit of the machine, of whatever make and in whatever layers: it means its figures.
 pub trait Unit {
     ghost figures: { Self → Figures };

@@ -1,0 +1,14 @@
+-- The divider by k that holds back the count c: what the unit in it means.
+use Prim.Native.Nat.{ℕ, _*_}
+use lib.IntN.{ℤ, pos, _+ℤ_}
+use Rattle.unit.specs.Figures.{Constants, Figures}
+
+abbrev pub divided-constants : ℕ → Constants → Constants
+divided-constants k n = record { modulus = k * n .modulus; low = n .low; bottom = n .bottom; top = n .top; weight = n .weight }
+
+abbrev pub divided : ℕ → ℕ → Figures → Figures
+divided k c f = record {
+  constants = divided-constants k (f .constants);
+  position = f .position;
+  residue = f .residue +ℤ pos (f .constants .modulus * c);
+}
