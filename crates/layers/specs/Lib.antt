@@ -1,2 +1,3 @@
 pub mod Dividers
+pub mod Houses
 pub mod Turns

@@ -1,7 +1,8 @@
 ghost use mathlib.Core.Path.{_≡_};
 ghost use Prim.Native.Nat.{_≤_};
 ghost use lib.IntN.{natAbs};
-ghost use Rattle.layers.specs.Turns.{turned-pulse, turned-number};
+ghost use Rattle.std.specs.Options.{Cases as BySome};
+ghost use Rattle.layers.specs.Turns.{figure-of, turned-pulse, turned-number};
 ghost use Rattle.unit.specs.Sizes.{largest};
 use unit::pulse::Pulse;
 
@@ -15,6 +16,17 @@ pub enum Sense {
 }
 
 impl Sense {
+    // The sense that goes by this figure: 0 is upright, 1 inverted.
+    pub fn of(figure: u8) -> Option<Sense>
+        ensures { λ r. ⌜ BySome r ((s : Sense) → figure-of s ≡ figure → ⊥) (λ s. figure-of s ≡ figure) ⌝ }
+    {
+        match figure {
+            0 => Some(Sense::Upright),
+            1 => Some(Sense::Inverted),
+            _ => None,
+        }
+    }
+
     fn turn_pulse(self, pulse: Pulse) -> Pulse
         ensures { λ r. ⌜ r ≡ turned-pulse self pulse ⌝ }
     {

@@ -11,14 +11,20 @@ use unit::tally::Tally;
 use unit::unit::Unit;
 
 impl<U: Unit> Turn<U> {
-    // The unit upright for the figure 0, inverted for 1; refused for any other, and the unit comes back.
-    pub fn new(figure: u8, unit: U) -> Result<Turn<U>, Returned<U>>
+    // The unit in a turn layer of this sense.
+    pub fn new(sense: Sense, unit: U) -> Turn<U>
+        ensures { λ r. ⌜ (r .sense ≡ sense) × (r .below ≡ unit) ⌝ }
+    {
+        Turn { sense, below: unit }
+    }
+
+    // The same by the figure of the sense; refused where no sense has it, and the unit comes back.
+    pub fn of_figure(figure: u8, unit: U) -> Result<Turn<U>, Returned<U>>
         ensures { λ r. ⌜ Enclosed (λ t. t .below) (λ t. figure-of (t .sense) ≡ figure) ((s : Sense) → figure-of s ≡ figure → ⊥) unit r ⌝ }
     {
-        match figure {
-            0 => Ok(Turn { sense: Sense::Upright, below: unit }),
-            1 => Ok(Turn { sense: Sense::Inverted, below: unit }),
-            _ => Err(Returned { unit, refusal: Refusal::FigureOutOfRange }),
+        match Sense::of(figure) {
+            Some(sense) => Ok(Turn::new(sense, unit)),
+            None => Err(Returned { unit, refusal: Refusal::FigureOutOfRange }),
         }
     }
 }
