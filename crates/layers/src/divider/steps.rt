@@ -1,11 +1,9 @@
 ghost use mathlib.Core.Path.{_≡_};
 ghost use Prim.Native.Nat.{_*_, _<_, _≤_};
 ghost use lib.IntN.{natAbs, pos, _+ℤ_};
-ghost use Rattle.layers.specs.Dividers.{divided};
+ghost use Rattle.layers.specs.Dividers.{divided, Counted};
 ghost use Rattle.unit.specs.Making.{Enclosed};
-ghost use Rattle.unit.specs.Pulses.{value};
 ghost use Rattle.unit.specs.Sizes.{largest};
-ghost use Rattle.unit.specs.Solutions.{OnlySolution};
 use crate::divider::Divider;
 use makes::band::divide;
 use unit::pulse::Pulse;
@@ -30,7 +28,7 @@ impl<U: Unit> Divider<U> {
 // The pulse that goes on and the count that stays, after a pulse from below.
 fn counted(count: u8, pulse: Pulse, divisor: u8) -> (Pulse, u8)
     requires { ⌜ count < divisor ⌝ }
-    ensures { λ r. ⌜ OnlySolution divisor (pos 0) (pos count +ℤ value pulse) (value (r .0)) (pos (r .1)) ⌝ }
+    ensures { λ r. ⌜ Counted divisor count pulse (r .0) (r .1) ⌝ }
 {
     let held = i64::from(count) + i64::from(pulse.value());
     let (emitted, rest) = divide(held, u32::from(divisor), 0);
