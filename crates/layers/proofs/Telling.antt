@@ -4,34 +4,21 @@ use Prim.Native.Nat.{ℕ, _*_, _≤_, _<_}
 use native.Mathlib.Nat.{mul-comm, zero-mul}
 use native.Mathlib.Omega.{arith}
 use lib.IntN.{ℤ, pos, natAbs, _+ℤ_}
-use Rattle.unit.specs.Figures.{Figures, Lawful, told-modulus, told-residue}
+use Rattle.unit.specs.Figures.{Figures, Lawful, told-number, told-modulus, told-residue}
 use Rattle.unit.specs.Sizes.{largest}
 use Rattle.unit.proofs.Answers.{told, untold, told-or-not, told-residue-short}
 use Rattle.layers.specs.Dividers.{divided}
 use Rattle.layers.proofs.Dividing.{times-least, room}
 
--- t is what the unit below tells
-module _ (k c : ℕ) (f : Figures) (least : 1 ≤ k) (t : ℕ) (e : t ≡ told-modulus f) where
-  pub told-too-large : largest < t * k → 0 ≡ told-modulus (divided k c f)
-  told-too-large h =
-      told-or-not f
-      (λ small.
-        let same = ap (λ (n : ℕ). n * k) (e ∙ told f small .0) ∙ mul-comm (f .constants .modulus) k in
-        sym (untold (divided k c f) (omega arith) .0))
-      (λ large.
-        let none = ap (λ (n : ℕ). n * k) (e ∙ untold f large .0) ∙ zero-mul k in
-        absurd (omega arith))
-
-  pub told-product : t * k ≤ largest → t * k ≡ told-modulus (divided k c f)
-  told-product h =
-      told-or-not f
-      (λ small.
-        let same = ap (λ (n : ℕ). n * k) (e ∙ told f small .0) ∙ mul-comm (f .constants .modulus) k in
-        same ∙ sym (told (divided k c f) (omega arith) .0))
-      (λ large.
-        let none = ap (λ (n : ℕ). n * k) (e ∙ untold f large .0) ∙ zero-mul k in
-        let more = times-least k (f .constants .modulus) least in
-        none ∙ sym (untold (divided k c f) (omega arith) .0))
+-- the product of what the unit below tells and the divisor, told
+pub told-product : (k c : ℕ) (f : Figures) → 1 ≤ k → (t : ℕ) → t ≡ told-modulus f → told-number (t * k) ≡ told-modulus (divided k c f)
+told-product k c f least t e =
+    told-or-not f
+    (λ small. ap told-number (ap (λ (n : ℕ). n * k) (e ∙ told f small .0) ∙ mul-comm (f .constants .modulus) k))
+    (λ large.
+      let none = ap (λ (n : ℕ). n * k) (e ∙ untold f large .0) ∙ zero-mul k in
+      let more = times-least k (f .constants .modulus) least in
+      ap told-number none ∙ sym (untold (divided k c f) (omega arith) .0))
 
 -- a unit that tells the modulus 0 has one that is too large
 pub none-told : (f : Figures) → Lawful f → told-modulus f ≡ 0 → pos 0 ≡ told-residue f

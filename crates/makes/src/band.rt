@@ -3,7 +3,7 @@ ghost use lib.IntN.{natAbs, pos, _+ℤ_, _-ℤ_, _*ℤ_};
 ghost use lib.Signed.{_≤ℤ_, _<ℤ_};
 ghost use Rattle.unit.specs.Pulses.{value};
 ghost use Rattle.unit.specs.Sizes.{largest};
-ghost use Rattle.unit.specs.Solutions.{InBand, OnlySolution};
+ghost use Rattle.unit.specs.Solutions.{InBand, Solves, OnlySolution};
 use unit::pulse::Pulse;
 
 // Division with a band: the pulse z and the residue r with modulus · z + r = v and r among the `modulus` numbers
@@ -13,6 +13,16 @@ pub fn divide(v: i64, modulus: u32, low: i64) -> (Pulse, i64)
     requires above { ⌜ (low -ℤ pos modulus) ≤ℤ v ⌝ }
     requires below { ⌜ v <ℤ ((low +ℤ pos modulus) +ℤ pos modulus) ⌝ }
     ensures { λ r. ⌜ OnlySolution modulus low v (value (r .0)) (r .1) ⌝ }
+{
+    carry(v, modulus, low)
+}
+
+// The same without the word that there are no others.
+fn carry(v: i64, modulus: u32, low: i64) -> (Pulse, i64)
+    requires near { ⌜ natAbs low ≤ largest ⌝ }
+    requires above { ⌜ (low -ℤ pos modulus) ≤ℤ v ⌝ }
+    requires below { ⌜ v <ℤ ((low +ℤ pos modulus) +ℤ pos modulus) ⌝ }
+    ensures { λ r. ⌜ Solves modulus low v (value (r .0)) (r .1) ⌝ }
 {
     let modulus = i64::from(modulus);
     if v < low {

@@ -66,9 +66,12 @@ Stepped figures u x s (Some z) v = Moved (figures u) x s z (figures v)
 abbrev pub weight-now : Figures → ℤ
 weight-now f = f .constants .weight (f .position)
 
--- the modulus as it is told: 0 for one above the largest
+-- a modulus as it is told: 0 for one above the largest
+abbrev pub told-number : ℕ → ℕ
+told-number m = cond (leb m largest) m 0
+
 abbrev pub told-modulus : Figures → ℕ
-told-modulus f = cond (leb (f .constants .modulus) largest) (f .constants .modulus) 0
+told-modulus f = told-number (f .constants .modulus)
 
 -- the residue as it is told: 0 where the modulus is above the largest
 abbrev pub told-residue : Figures → ℤ

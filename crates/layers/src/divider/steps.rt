@@ -2,6 +2,7 @@ ghost use mathlib.Core.Path.{_≡_};
 ghost use Prim.Native.Nat.{_*_, _<_, _≤_};
 ghost use lib.IntN.{natAbs, pos, _+ℤ_};
 ghost use Rattle.layers.specs.Dividers.{divided, Counted};
+ghost use Rattle.unit.specs.Figures.{told-number};
 ghost use Rattle.unit.specs.Making.{Enclosed};
 ghost use Rattle.unit.specs.Sizes.{largest};
 use crate::divider::Divider;
@@ -33,6 +34,13 @@ fn counted(count: u8, pulse: Pulse, divisor: u8) -> (Pulse, u8)
     let held = i64::from(count) + i64::from(pulse.value());
     let (emitted, rest) = divide(held, u32::from(divisor), 0);
     (emitted, rest as u8)
+}
+
+// A modulus as it is told.
+fn told(modulus: u64) -> u64
+    ensures { λ r. ⌜ r ≡ told-number modulus ⌝ }
+{
+    if modulus > LARGEST { 0 } else { modulus }
 }
 
 // The residue below, and a whole modulus for each pulse that is held back.
@@ -75,7 +83,6 @@ pub impl<U: Unit> Unit for Divider<U> as DividerUnit {
     }
 
     fn modulus(&self) -> u64 {
-        let modulus = self.below.modulus() * u64::from(self.divisor);
-        if modulus > LARGEST { 0 } else { modulus }
+        told(self.below.modulus() * u64::from(self.divisor))
     }
 }
