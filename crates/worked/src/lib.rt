@@ -11,3 +11,6 @@ pub fn worked_examples() -> usize
 {
     8
 }
+
+#[cfg(test)]
+mod tests;
