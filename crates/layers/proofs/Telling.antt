@@ -16,9 +16,9 @@ told-product k c f least t e =
     told-or-not f
     (λ small. ap told-number (ap (λ (n : ℕ). n * k) (e ∙ told f small .0) ∙ mul-comm (f .constants .modulus) k))
     (λ large.
-      let none = ap (λ (n : ℕ). n * k) (e ∙ untold f large .0) ∙ zero-mul k in
-      let more = times-least k (f .constants .modulus) least in
-      ap told-number none ∙ sym (untold (divided k c f) (omega arith) .0))
+    let none = ap (λ (n : ℕ). n * k) (e ∙ untold f large .0) ∙ zero-mul k in
+    let more = times-least k (f .constants .modulus) least in
+    ap told-number none ∙ sym (untold (divided k c f) (omega arith) .0))
 
 -- a unit that tells the modulus 0 has one that is too large
 pub none-told : (f : Figures) → Lawful f → told-modulus f ≡ 0 → pos 0 ≡ told-residue f

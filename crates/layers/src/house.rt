@@ -34,7 +34,13 @@ pub enum Make {
 pub type HouseUnit = Turn<Divider<Make>>;
 
 // A house unit round an integrator; refused where one of the figures is out of its range.
-pub fn house_integrator(length: u8, position: i64, residue: i64, divisor: u8, sense: Sense) -> Result<HouseUnit, Refusal>
+pub fn house_integrator(
+    length: u8,
+    position: i64,
+    residue: i64,
+    divisor: u8,
+    sense: Sense,
+) -> Result<HouseUnit, Refusal>
     ensures { λ r. ⌜ Made house-figures (AllowedIntegrator length position residue × (1 ≤ divisor)) (turned sense (divided divisor 0 (integrator length position residue))) r ⌝ }
 {
     let unit = Integrator::new(length, position, residue)?;
@@ -42,7 +48,12 @@ pub fn house_integrator(length: u8, position: i64, residue: i64, divisor: u8, se
 }
 
 // A house unit round a servo; refused where one of the figures is out of its range.
-pub fn house_servo(limit: u32, position: i64, divisor: u8, sense: Sense) -> Result<HouseUnit, Refusal>
+pub fn house_servo(
+    limit: u32,
+    position: i64,
+    divisor: u8,
+    sense: Sense,
+) -> Result<HouseUnit, Refusal>
     ensures { λ r. ⌜ Made house-figures (AllowedServo limit position × (1 ≤ divisor)) (turned sense (divided divisor 0 (servo limit position))) r ⌝ }
 {
     let unit = Servo::new(limit, position)?;

@@ -1,5 +1,5 @@
 // The makes of units: what keeps a position and a residue of its own.
-mod range;
 pub mod band;
 pub mod integrator;
+mod range;
 pub mod servo;

@@ -41,6 +41,6 @@ pub only-solution : (m : ℕ) (low v z r : ℤ) → Solves m low v z r → OnlyS
 only-solution m low v z r s = record {
   solves = s;
   only = λ y q t.
-    let e = same-quotient m low v y q z r t s in
-    (e, same-rest (pos m *ℤ z) q r v (rw e at (t .equation)) (s .equation));
+      let e = same-quotient m low v y q z r t s in
+      (e, same-rest (pos m *ℤ z) q r v (rw e at (t .equation)) (s .equation));
 }

@@ -31,7 +31,9 @@ impl Tally {
     pub fn of(pulse: Pulse) -> Tally
         ensures { λ r. ⌜ r .value ≡ value pulse ⌝ }
     {
-        Tally { value: pulse.value() }
+        Tally {
+            value: pulse.value(),
+        }
     }
 
     pub fn value(self) -> i8

@@ -27,24 +27,84 @@ module _ (f : Figures) (x : Pulse) (s : ℤ) (z : Pulse) (r : ℤ) where
   moves above below balance = record { inside = record { above = record { le = above }; below = record { le = below } }; constants = refl; position = refl; balance = balance }
 
 growth : Holds growth-patch
-growth =
-    (_, (moves _ _ _ _ (pos 1) tt tt (divides _ _ _ _ _ tt tt refl), refl,
-    (_, (moves _ _ _ _ (pos 2) tt tt (divides _ _ _ _ _ tt tt refl), refl,
-    (_, (moves _ _ _ _ (pos 3) tt tt (divides _ _ _ _ _ tt tt refl), refl,
-    (_, (moves _ _ _ _ (pos 0) tt tt (divides _ _ _ _ _ tt tt refl), refl,
-    (_, (moves _ _ _ _ (pos 2) tt tt (divides _ _ _ _ _ tt tt refl), refl,
-    (_, (moves _ _ _ _ (pos 0) tt tt (divides _ _ _ _ _ tt tt refl), refl,
-    (_, (moves _ _ _ _ (pos 3) tt tt (divides _ _ _ _ _ tt tt refl), refl,
-    (_, (moves _ _ _ _ (pos 2) tt tt (divides _ _ _ _ _ tt tt refl), refl,
-    (_, (moves _ _ _ _ (pos 2) tt tt (divides _ _ _ _ _ tt tt refl), refl, tt))))))))))))))))))
+growth = (
+  _,
+  (
+    moves _ _ _ _ (pos 1) tt tt (divides _ _ _ _ _ tt tt refl),
+    refl,
+    (
+      _,
+      (
+        moves _ _ _ _ (pos 2) tt tt (divides _ _ _ _ _ tt tt refl),
+        refl,
+        (
+          _,
+          (
+            moves _ _ _ _ (pos 3) tt tt (divides _ _ _ _ _ tt tt refl),
+            refl,
+            (
+              _,
+              (
+                moves _ _ _ _ (pos 0) tt tt (divides _ _ _ _ _ tt tt refl),
+                refl,
+                (
+                  _,
+                  (
+                    moves _ _ _ _ (pos 2) tt tt (divides _ _ _ _ _ tt tt refl),
+                    refl,
+                    (
+                      _,
+                      (
+                        moves _ _ _ _ (pos 0) tt tt (divides _ _ _ _ _ tt tt refl),
+                        refl,
+                        (
+                          _,
+                          (
+                            moves _ _ _ _ (pos 3) tt tt (divides _ _ _ _ _ tt tt refl),
+                            refl,
+                            (
+                              _,
+                              (
+                                moves _ _ _ _ (pos 2) tt tt (divides _ _ _ _ _ tt tt refl),
+                                refl,
+                                (_, (moves _ _ _ _ (pos 2) tt tt (divides _ _ _ _ _ tt tt refl), refl, tt)),
+                              ),
+                            ),
+                          ),
+                        ),
+                      ),
+                    ),
+                  ),
+                ),
+              ),
+            ),
+          ),
+        ),
+      ),
+    ),
+  ),
+)
 
 pub all-hold : All Holds examples
-all-hold =
-    (growth,
-    ((_, (moves _ _ _ _ (pos 3) tt tt (divides _ _ _ _ _ tt tt refl), refl)),
-    ((_, (moves _ _ _ _ (pos 3) tt tt (divides _ _ _ _ _ tt tt refl), refl)),
-    ((_, (moves _ _ _ _ (negsuc 2) tt tt (divides _ _ _ _ _ tt tt refl), refl)),
-    (record { above = record { le = tt }; below = record { le = tt } },
-    (λ inside. inside .below .le,
-    (divides _ _ _ _ _ tt tt refl,
-    (divides _ _ _ _ _ tt tt refl, tt))))))))
+all-hold = (
+  growth,
+  (
+    (_, (moves _ _ _ _ (pos 3) tt tt (divides _ _ _ _ _ tt tt refl), refl)),
+    (
+      (_, (moves _ _ _ _ (pos 3) tt tt (divides _ _ _ _ _ tt tt refl), refl)),
+      (
+        (_, (moves _ _ _ _ (negsuc 2) tt tt (divides _ _ _ _ _ tt tt refl), refl)),
+        (
+          record { above = record { le = tt }; below = record { le = tt } },
+          (
+            λ inside. inside .below .le,
+            (
+              divides _ _ _ _ _ tt tt refl,
+              (divides _ _ _ _ _ tt tt refl, tt),
+            ),
+          ),
+        ),
+      ),
+    ),
+  ),
+)

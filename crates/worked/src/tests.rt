@@ -20,7 +20,17 @@ use unit::unit::Unit;
 // Growth at ticks 1 to 9: pulse and residue; the tenth step is refused.
 #[test]
 fn growth() -> Result<(), Fail> {
-    let rows = [(0, 1), (0, 2), (0, 3), (1, 0), (0, 2), (1, 0), (0, 3), (1, 2), (1, 2)];
+    let rows = [
+        (0, 1),
+        (0, 2),
+        (0, 3),
+        (1, 0),
+        (0, 2),
+        (1, 0),
+        (0, 3),
+        (1, 2),
+        (1, 2),
+    ];
     let mut unit = Integrator::new(2, 1, 0)?;
     let mut last = Pulse::Zero;
     for (pulse, residue) in rows {
@@ -37,7 +47,10 @@ fn growth() -> Result<(), Fail> {
 fn inverted() -> Result<(), Fail> {
     let mut unit = house_integrator(2, -1, 0, 1, Sense::Inverted)?;
     check_eq(unit.weight(), 1)?;
-    check_eq(unit.step(Pulse::Plus, Tally::of(Pulse::Zero)), Some(Pulse::Plus))?;
+    check_eq(
+        unit.step(Pulse::Plus, Tally::of(Pulse::Zero)),
+        Some(Pulse::Plus),
+    )?;
     check_eq(unit.residue(), -3)
 }
 
@@ -45,10 +58,19 @@ fn inverted() -> Result<(), Fail> {
 #[test]
 fn divided() -> Result<(), Fail> {
     let mut unit = house_servo(5, -5, 3, Sense::Upright)?;
-    check_eq(unit.step(Pulse::Plus, Tally::of(Pulse::Zero)), Some(Pulse::Minus))?;
+    check_eq(
+        unit.step(Pulse::Plus, Tally::of(Pulse::Zero)),
+        Some(Pulse::Minus),
+    )?;
     check_eq(unit.residue(), 2)?;
-    check_eq(unit.step(Pulse::Plus, Tally::of(Pulse::Zero)), Some(Pulse::Zero))?;
-    check_eq(unit.step(Pulse::Plus, Tally::of(Pulse::Zero)), Some(Pulse::Zero))?;
+    check_eq(
+        unit.step(Pulse::Plus, Tally::of(Pulse::Zero)),
+        Some(Pulse::Zero),
+    )?;
+    check_eq(
+        unit.step(Pulse::Plus, Tally::of(Pulse::Zero)),
+        Some(Pulse::Zero),
+    )?;
     check_eq(unit.residue(), 0)?;
     check_eq(unit.accepts(Tally::of(Pulse::Minus)), false)
 }

@@ -19,7 +19,13 @@ impl Growth {
         ensures { λ r. ⌜ Cases r Started (λ _. ⊥) ⌝ }
     {
         let unit = Integrator::new(2, 1, 0)?;
-        Ok(Growth { unit, last: Pulse::Zero, ticks: 0, net: 0, work: 0 })
+        Ok(Growth {
+            unit,
+            last: Pulse::Zero,
+            ticks: 0,
+            net: 0,
+            work: 0,
+        })
     }
 
     // One tick: the clock on x, the last pulse as tally.
@@ -35,7 +41,13 @@ impl Growth {
         };
         let net = self.net + i64::from(pulse.value());
         let work = self.work + unit.weight();
-        *self = Growth { unit, last: pulse, ticks: self.ticks + 1, net, work };
+        *self = Growth {
+            unit,
+            last: pulse,
+            ticks: self.ticks + 1,
+            net,
+            work,
+        };
         Ok(())
     }
 

@@ -20,9 +20,16 @@ impl<U: Unit> Divider<U> {
         ensures { λ r. ⌜ Enclosed (λ d. d .below) (λ d. (d .divisor ≡ divisor) × (d .count ≡ 0)) (divisor ≡ 0) unit r ⌝ }
     {
         if divisor < 1 {
-            return Err(Returned { unit, refusal: Refusal::FigureOutOfRange });
+            return Err(Returned {
+                unit,
+                refusal: Refusal::FigureOutOfRange,
+            });
         }
-        Ok(Divider { divisor, count: 0, below: unit })
+        Ok(Divider {
+            divisor,
+            count: 0,
+            below: unit,
+        })
     }
 }
 

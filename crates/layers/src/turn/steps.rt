@@ -24,7 +24,10 @@ impl<U: Unit> Turn<U> {
     {
         match Sense::of(figure) {
             Some(sense) => Ok(Turn::new(sense, unit)),
-            None => Err(Returned { unit, refusal: Refusal::FigureOutOfRange }),
+            None => Err(Returned {
+                unit,
+                refusal: Refusal::FigureOutOfRange,
+            }),
         }
     }
 }

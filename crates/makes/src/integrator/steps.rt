@@ -25,7 +25,11 @@ impl Integrator {
         if position < -modulus || position > modulus || residue < 0 || residue >= modulus {
             return Err(Refusal::FigureOutOfRange);
         }
-        Ok(Integrator { length, position, residue })
+        Ok(Integrator {
+            length,
+            position,
+            residue,
+        })
     }
 }
 

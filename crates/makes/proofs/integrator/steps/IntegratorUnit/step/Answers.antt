@@ -17,6 +17,6 @@ returns c =
     let fq : SFits w64 (c .renew-pulse .result .1) = search needs in
     let h = c .in-Continue-position .ensures tt in
     simp toZ-ofZ (moves (constants-of (a .length)) (a .position) (a .residue) (c .args .x) (c .args .tally .value) p (c .renew-pulse .result .1) (c .renew-pulse .result .0)
-      (simp toZ-ofZ at (h .0))
-      (record { above = omega (arith, ints); below = omega (arith, ints) })
-      (simp (toZ-ofZ, c .modulus-of-modulus .ensures) at (c .renew-pulse .ensures)))
+    (simp toZ-ofZ at (h .0))
+    (record { above = omega (arith, ints); below = omega (arith, ints) })
+    (simp (toZ-ofZ, c .modulus-of-modulus .ensures) at (c .renew-pulse .ensures)))

@@ -22,6 +22,6 @@ returns c =
     let weight = simp toZ-ofZ at (c .signum .ensures .value) in
     let balance = simp toZ-ofZ at (c .renew-pulse .ensures) in
     simp toZ-ofZ (moves (constants-of (a .limit)) (a .position) (pos 0) (c .args .x) (c .args .tally .value) p (pos 0) (c .renew-pulse .result .0)
-      (simp toZ-ofZ at (h .0))
-      (record { above = omega (arith, ints); below = omega (arith, ints) })
-      (simp (weight, none) at balance))
+    (simp toZ-ofZ at (h .0))
+    (record { above = omega (arith, ints); below = omega (arith, ints) })
+    (simp (weight, none) at balance))
