@@ -1,3 +1,4 @@
 pub mod Answers
 pub mod Division
 pub mod Products
+pub mod Sizes

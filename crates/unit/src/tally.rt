@@ -1,6 +1,6 @@
 ghost use mathlib.Core.Path.{_≡_};
 ghost use Prim.Native.Nat.{_≤_, _<_};
-ghost use lib.IntN.{natAbs, pos};
+ghost use lib.IntN.{natAbs, _+ℤ_};
 ghost use Rattle.std.specs.Options.{Cases as BySome};
 ghost use Rattle.unit.specs.Pulses.{value};
 ghost use Rattle.unit.specs.Sizes.{largest-tally};
@@ -36,9 +36,24 @@ impl Tally {
         }
     }
 
+    // The tally of four taps that deliver these pulses.
+    pub fn of_four(a: Pulse, b: Pulse, c: Pulse, d: Pulse) -> Tally
+        ensures { λ r. ⌜ r .value ≡ (value a +ℤ value b) +ℤ (value c +ℤ value d) ⌝ }
+    {
+        let value = sum(a, b) + sum(c, d);
+        Tally { value }
+    }
+
     pub fn value(self) -> i8
         ensures { λ r. ⌜ r ≡ self .value ⌝ }
     {
         self.value
     }
+}
+
+fn sum(a: Pulse, b: Pulse) -> i8
+    ensures sum { λ r. ⌜ r ≡ value a +ℤ value b ⌝ }
+    ensures size { λ r. ⌜ natAbs r ≤ 2 ⌝ }
+{
+    a.value() + b.value()
 }

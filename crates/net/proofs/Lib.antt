@@ -1,0 +1,3 @@
+pub mod Bounded
+pub mod Sums
+pub mod Tables

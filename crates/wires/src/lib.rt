@@ -1,0 +1,3 @@
+// Wires: what a tap reads, and by which numbers signs and sources are asked for.
+pub mod source;
+pub mod tap;
