@@ -28,17 +28,18 @@ pub record Put (at : ℕ) (xs before later : List ℕ) (end : ℕ) : Type 0 wher
   pub end-is : end ≡ at + length xs
   pub is : later ≡ overwritten at xs before
 
--- the row stands at the start of the buffer, and has n bytes; the bytes after it are as they were
+-- the row stands at the start of the buffer and has n bytes, and the bytes after it are as they were
 pub record RowStands (fields : List ℤ) (before later : List ℕ) (n : ℕ) : Type 0 where
   pub count : n ≡ length (row-bytes fields)
+  pub room : n ≤ length before
   pub bytes : later ≡ row-bytes fields ++ drop n before
 
--- the buffer is too short for the row, and as it was
-pub record RowRefused (fields : List ℤ) (before later : List ℕ) : Type 0 where
-  pub short : length before < length (row-bytes fields)
+-- the row is longer than the buffer, which is as it was
+pub record RowTooLong (fields : List ℤ) (before later : List ℕ) : Type 0 where
+  pub longer : length before < length (row-bytes fields)
   pub same : later ≡ before
 
--- what is answered and left in the buffer when a row is to be written into it
+-- a buffer before and after a row was to be written into it, and how many bytes were written, if any
 abbrev pub RowWritten : List ℤ → List ℕ → List ℕ → Option ℕ → Type 0
-RowWritten fields before later None = RowRefused fields before later
 RowWritten fields before later (Some n) = RowStands fields before later n
+RowWritten fields before later None = RowTooLong fields before later

@@ -1,13 +1,15 @@
 use mathlib.Core.Path.{sym, ap}
 use native.Mathlib.Omega.{arith}
-use borrow.Author.Needs.{needs}
 use lib.ListN.{length}
-use Rattle.std.proofs.shelf.Decimals.{decimal-digit, length-decimal-le}
-use Rattle.rows.proofs.Numbers.{length-decimal-step}
+use Rattle.std.proofs.shelf.Decimals.{length-decimal-le}
+use Rattle.rows.proofs.Numbers.{decimal-one, length-decimal-step}
 use Rattle.rows.proofs.+decimal_len.Needs as need
 
 pub returns-then-n-lt10 : need.returns-then-n-lt10
-returns-then-n-lt10 t c = record { value = sym (ap length (decimal-digit (c .args .n) (omega arith))); bound = omega arith }
+returns-then-n-lt10 t c = record {
+  value = sym (ap length (decimal-one (c .args .n) (omega arith)));
+  bound = omega arith;
+}
 
 pub returns-else-n-lt10 : need.returns-else-n-lt10
 returns-else-n-lt10 t c =

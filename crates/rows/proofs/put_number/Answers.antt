@@ -8,5 +8,5 @@ use Rattle.rows.proofs.put_number.Needs as need
 
 pub returns : need.returns
 returns c =
-    let text : signed (c .args .z) ≡ 45 ∷ decimal (c .unsigned-abs-2 .result) = grind (arith, ints, toZ-ofZ) in
-    rw text (then (c .put-byte-digits .ensures) (c .put-unsigned-2 .ensures))
+    let text : signed (c .args .z) ≡ 45 ∷ decimal (c .unsigned-abs-size .result) = grind (arith, ints, toZ-ofZ) in
+    rw text (then (c .put-byte-digits .ensures) (c .put-decimal-2 .ensures))

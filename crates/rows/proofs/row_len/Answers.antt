@@ -1,30 +1,23 @@
-use mathlib.Core.Path.{_≡_, ap}
-use Prim.Native.Nat.{_+_, _^_, _≤_}
+use mathlib.Core.Path.{ap}
+use Prim.Native.Nat.{_^_, _≤_}
 use native.Mathlib.Omega.{arith}
 use borrow.Author.Needs.{needs}
-use lib.IntN.{pos}
-use lib.ListN.{length, getD, length-append}
-use mir.Syntax.{w64}
-use mir.Val.{SFits}
+use lib.ListN.{length}
 use Rattle.std.proofs.shelf.Lists.{take-all}
-use Rattle.std.proofs.shelf.Signed.{toZ-ofZ}
 use Rattle.rows.specs.Rows.{row-bytes, spaced}
-use Rattle.rows.proofs.Rows.{spaced-more, next-within, length-row}
+use Rattle.rows.proofs.Rows.{length-more, more-within, length-row}
 use Rattle.rows.proofs.row_len.Needs as need
 
 pub returns-in-Break-len : need.returns-in-Break-len
 returns-in-Break-len c =
-    let fits : SFits w64 (getD (c .args .fields .now) (c .loop-z .z-index) (pos 0)) = search needs in
-    let text = simp toZ-ofZ at (c .number-len .ensures .value) in
-    let next = next-within (c .args .fields .now) (c .loop-z .z-index) (c .loop-z-test .taken) in
-    let many : 2 ^ 64 ≤ length (row-bytes (c .args .fields .now)) = omega (arith, c .in-Break-len .ensures tt, length-row (c .args .fields .now)) in
+    let next = more-within (c .args .fields .now) (c .loop-z .z-index) (c .loop-z-test .taken) (search needs) in
+    let many : 2 ^ 64 ≤ length (row-bytes (c .args .fields .now)) =
+      omega (arith, c .in-Break-len .ensures tt, length-row (c .args .fields .now)) in
     simp (c .from-residual .ensures) many
 
 pub loop-z-again : need.loop-z-again
 loop-z-again c =
-    let fits : SFits w64 (getD (c .args .fields .now) (c .loop-z .z-index) (pos 0)) = search needs in
-    let text = simp toZ-ofZ at (c .number-len .ensures .value) in
-    let more = simp length-append at (ap length (spaced-more (c .args .fields .now) (c .loop-z .z-index) (c .loop-z-test .taken))) in
+    let next = length-more (c .args .fields .now) (c .loop-z .z-index) (c .loop-z-test .taken) (search needs) in
     omega (arith, c .in-Continue-len .ensures tt)
 
 pub returns : need.returns

@@ -1,0 +1,2 @@
+// Jobs: a rack of units and its net, driven by calls. Written once for every make of unit.
+mod passes;
