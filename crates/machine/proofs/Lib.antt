@@ -1,3 +1,4 @@
 pub mod Advancing
+pub mod Chains
 pub mod Stepping
 pub mod Wiring

@@ -54,6 +54,12 @@ WithTap X r tap (Some s) = (isSome (r .x) ≡ false) × (s ≡ with-x r tap)
 WithTap Y r tap None = FirstFree (r .y) None
 WithTap Y r tap (Some s) = (k : ℕ) × (FirstFree (r .y) (Some k) × (s ≡ with-y r k tap))
 
+-- a line that there is, and +1 or -1
+pub record FeedAsked (l : ℕ) (v : ℤ) (z : Pulse) : Type 0 where
+  pub line : l < 4
+  pub pulse : value z ≡ v
+  pub some : z ≡ Zero → ⊥
+
 -- ---- calls that ask nothing of the units
 module _ {U : Type 0} (units : ℕ) (us : List U) (n : Net) where
   -- place
@@ -105,12 +111,7 @@ module _ {U : Type 0} (units : ℕ) (us : List U) (n : Net) where
   ClearAnswers i (Ok _) m = Matches units us n × (i < units) × Stored n i (cleared (record-at (n .table .records) i)) m
   ClearAnswers i (Err e) m = Refused units us n (ClearFault i) e × (m ≡ n)
 
-  -- feed: a line that there is, and +1 or -1
-  pub record FeedAsked (l : ℕ) (v : ℤ) (z : Pulse) : Type 0 where
-    pub line : l < 4
-    pub pulse : value z ≡ v
-    pub some : z ≡ Zero → ⊥
-
+  -- feed
   pub data FeedFault (l : ℕ) (v : ℤ) : Refusal → Type 0 where
     no-feed : ((z : Pulse) → FeedAsked l v z → ⊥) → FeedFault l v NoSuchFeed
     waiting : (z : Pulse) → FeedAsked l v z → isSome (getD (n .outside) l None) ≡ true → FeedFault l v PulseWaiting
@@ -127,8 +128,8 @@ module _ {U : Type 0} (units : ℕ) (us : List U) (n : Net) where
   FeedAnswers l v (Err e) m = Refused units us n (FeedFault l v) e × (m ≡ n)
 
 -- ---- calls that ask the units
-module _ {U : Type 0} (figures : U → Figures) (units : ℕ) (us : List U) (n : Net) where
-  -- set: every unit below k tells a modulus
+module _ {U : Type 0} (figures : U → Figures) (units : ℕ) (us : List U) where
+  -- every unit below k tells a modulus
   abbrev pub AllTold : ℕ → Type 0
   AllTold k = (i : ℕ) → i < k → (u : U) → told-modulus (at-place figures us i u) ≡ 0 → ⊥
 
@@ -137,12 +138,14 @@ module _ {U : Type 0} (figures : U → Figures) (units : ℕ) (us : List U) (n :
   FirstUntold None = AllTold units
   FirstUntold (Some k) = (k < units) × AllTold k × ((u : U) → told-modulus (at-place figures us k u) ≡ 0)
 
+module _ {U : Type 0} (figures : U → Figures) (units : ℕ) (us : List U) (n : Net) where
+  -- set
   pub data SetFault : Refusal → Type 0 where
     no-units : units ≡ 0 → SetFault NoUnits
-    untold : 0 < units → (k : ℕ) → FirstUntold (Some k) → SetFault (ModulusUntold k)
+    untold : 0 < units → (k : ℕ) → FirstUntold figures units us (Some k) → SetFault (ModulusUntold k)
 
   abbrev pub SetAnswers : Result SetJob NotSet → Net → Type 0
-  SetAnswers (Ok job) m = Matches units us n × (0 < units) × AllTold units × (job .units ≡ units) × Reset n m
+  SetAnswers (Ok job) m = Matches units us n × (0 < units) × AllTold figures units us units × (job .units ≡ units) × Reset n m
   SetAnswers (Err e) m = Refused units us n SetFault (e .refusal) × (e .job .units ≡ units) × (m ≡ n)
 
   -- tick

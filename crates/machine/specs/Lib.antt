@@ -1,3 +1,4 @@
 pub mod Calls
 pub mod Passes
+pub mod Readings
 pub mod Ticks

@@ -3,6 +3,9 @@ ghost use Rattle.net.specs.Limits.{most-units};
 use unit::refusal::Refusal;
 
 pub mod open;
+pub mod run;
+pub mod tell;
+pub mod wiring;
 
 // A job whose rack and net may be changed: it takes place, plug, clear and set.
 #[derive(Drop)]

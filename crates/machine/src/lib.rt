@@ -2,3 +2,4 @@
 pub mod job;
 mod matching;
 mod passes;
+pub mod reading;

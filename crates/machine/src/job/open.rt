@@ -1,17 +1,17 @@
 ghost use mathlib.Core.Path.{_≡_};
-ghost use Rattle.machine.specs.Calls.{PlaceAnswers, PlugAnswers, ClearAnswers, WithTap};
+ghost use Prim.Native.Nat.{_≤_};
+ghost use lib.ListN.{length};
+ghost use Rattle.machine.specs.Calls.{PlaceAnswers, SetAnswers, FirstUntold};
 ghost use Rattle.net.specs.Changes.{Empty};
+use crate::job::NotSet;
 use crate::job::OpenJob;
+use crate::job::SetJob;
 use crate::matching::matches;
 use net::net::Net;
-use net::record::Record;
+use unit::rack::modulus_at;
 use unit::refusal::Refusal;
 use unit::refusal::Returned;
 use unit::unit::Unit;
-use wires::source::Source;
-use wires::tap::Input;
-use wires::tap::Sign;
-use wires::tap::Tap;
 
 // A job without units, and its empty net.
 pub fn open() -> (OpenJob, Net)
@@ -45,69 +45,43 @@ impl OpenJob {
         Ok(())
     }
 
-    // One tap more of one unit: sign and source by their numbers.
-    pub fn plug<U>(
-        &self,
-        rack: &[U],
-        net: &mut Net,
-        unit: u8,
-        input: Input,
-        sign: u8,
-        source: u8,
-    ) -> Result<(), Refusal>
-        ensures { λ r. ⌜ PlugAnswers (now (self .entry) .units) (now (rack .entry)) (now (net .entry)) unit input sign source r (now (net .exit)) ⌝ }
+    // Sets the job: nothing on any line, nothing counted, the units as they are. A refused job comes back.
+    pub fn set<U: Unit>(self, rack: &[U], net: &mut Net) -> Result<SetJob, NotSet>
+        ensures { λ r. ⌜ SetAnswers figures (self .units) (now (rack .entry)) (now (net .entry)) r (now (net .exit)) ⌝ }
     {
         if !matches(self.units, rack, net) {
-            return Err(Refusal::OtherRackOrNet);
+            return Err(NotSet {
+                job: self,
+                refusal: Refusal::OtherRackOrNet,
+            });
         }
-        let Some(sign) = Sign::of(sign) else {
-            return Err(Refusal::FigureOutOfRange);
-        };
-        let Some(source) = Source::of(source, self.units) else {
-            return Err(Refusal::NoSuchSource);
-        };
-        if unit >= self.units {
-            return Err(Refusal::NotThere);
+        if self.units == 0 {
+            return Err(NotSet {
+                job: self,
+                refusal: Refusal::NoUnits,
+            });
         }
-        match with_tap(net.record(unit as usize), input, Tap { sign, source }) {
-            Some(record) => {
-                net.store(unit as usize, record);
-                Ok(())
-            }
-            None => Err(Refusal::TapTaken),
+        if let Some(unit) = first_untold(rack, self.units) {
+            return Err(NotSet {
+                job: self,
+                refusal: Refusal::ModulusUntold { unit },
+            });
         }
-    }
-
-    // Takes all taps of one unit away.
-    pub fn clear<U>(&self, rack: &[U], net: &mut Net, unit: u8) -> Result<(), Refusal>
-        ensures { λ r. ⌜ ClearAnswers (now (self .entry) .units) (now (rack .entry)) (now (net .entry)) unit r (now (net .exit)) ⌝ }
-    {
-        if !matches(self.units, rack, net) {
-            return Err(Refusal::OtherRackOrNet);
-        }
-        if unit >= self.units {
-            return Err(Refusal::NotThere);
-        }
-        let record = net.record(unit as usize).cleared();
-        net.store(unit as usize, record);
-        Ok(())
+        net.reset();
+        let OpenJob { units } = self;
+        Ok(SetJob { units })
     }
 }
 
-// The record with one tap more, if there is a place for it.
-fn with_tap(record: Record, input: Input, tap: Tap) -> Option<Record>
-    ensures { λ r. ⌜ WithTap input «record» tap r ⌝ }
+// The lowest unit of the job that tells the modulus 0, if any.
+fn first_untold<U: Unit>(rack: &[U], units: u8) -> Option<u8>
+    requires { ⌜ units ≤ length (now rack) ⌝ }
+    ensures { λ r. ⌜ FirstUntold figures units (now (rack .entry)) r ⌝ }
 {
-    match input {
-        Input::X => {
-            if record.x.is_some() {
-                return None;
-            }
-            Some(record.with_x(tap))
+    for i in 0..units {
+        if modulus_at(rack, i as usize) == 0 {
+            return Some(i);
         }
-        Input::Y => match record.free_y() {
-            Some(k) => Some(record.with_y(k, tap)),
-            None => None,
-        },
     }
+    None
 }
