@@ -51,18 +51,18 @@ module _ (n : Net) (i : ℕ) (room : RoomAt n i) (z : Pulse) (w : ℤ) (light : 
 
 -- z is emitted, w the weight after the step, done the work
 pub advances : {U : Type 0} (figures : U → Figures) (us : List U) (n : Net) (i : ℕ) (given : Inputs) (vs : List U) (m : Net) (z : Pulse) (w done : ℤ) (s : Record)
-  → i < length (n .table .records) → MovesAt figures us i (given .x) (given .tally .value) z vs → ((u : U) → w ≡ weight-now (at-place figures vs i u)) → done ≡ w *ℤ value (given .x)
-  → Emitted (record-at (n .table .records) i) z done s → Stored n i s m → AdvancesAt figures us n i given vs m
+    → i < length (n .table .records) → MovesAt figures us i (given .x) (given .tally .value) z vs → ((u : U) → w ≡ weight-now (at-place figures vs i u)) → done ≡ w *ℤ value (given .x)
+    → Emitted (record-at (n .table .records) i) z done s → Stored n i s m → AdvancesAt figures us n i given vs m
 advances {U} figures us n i given vs m z w done s there moves weight work e stored =
     let now-there : record-at (m .table .records) i ≡ s = ap (λ (rs : List Record). record-at rs i) (stored .records) ∙ getD-set-same (n .table .records) i s blank there in
     let whole : (u : U) → Advanced (given .x) (given .tally .value) (at-place figures us i u) (at-place figures vs i u) (record-at (n .table .records) i) s =
-      λ u. record {
-        moved = subst (λ (p : Pulse). Moved (at-place figures us i u) (given .x) (given .tally .value) p (at-place figures vs i u)) (sym (e .line)) (moves u .0);
-        x-tap = e .x;
-        y-taps = e .y;
-        net = let line = ap value (e .line) in let n = e .net in cc;
-        work = e .done ∙ ap (λ (d : ℤ). record-at (n .table .records) i .work +ℤ d) (work ∙ ap (λ (v : ℤ). v *ℤ value (given .x)) (weight u));
-      } in
+    λ u. record {
+      moved = subst (λ (p : Pulse). Moved (at-place figures us i u) (given .x) (given .tally .value) p (at-place figures vs i u)) (sym (e .line)) (moves u .0);
+      x-tap = e .x;
+      y-taps = e .y;
+      net = let line = ap value (e .line) in let n = e .net in cc;
+      work = e .done ∙ ap (λ (d : ℤ). record-at (n .table .records) i .work +ℤ d) (work ∙ ap (λ (v : ℤ). v *ℤ value (given .x)) (weight u));
+    } in
     record {
       units = λ u. moves u .1;
       advanced = λ u. subst (λ (t : Record). Advanced (given .x) (given .tally .value) (at-place figures us i u) (at-place figures vs i u) (record-at (n .table .records) i) t) (sym now-there) (whole u);

@@ -39,7 +39,7 @@ overwritten-on at xs ys buf h =
     let rest : drop end (overwritten at xs buf) ≡ drop end buf = ap (drop end) split ∙ drop-at front (drop end buf) end size in
     let far : end + length ys ≡ at + length (xs ++ ys) = add-assoc at (length xs) (length ys) ∙ ap (λ n. at + n) (sym (length-append xs ys)) in
     let after : drop (end + length ys) (overwritten at xs buf) ≡ drop (at + length (xs ++ ys)) buf =
-      sym (drop-drop (length ys) end (overwritten at xs buf)) ∙ ap (drop (length ys)) rest ∙ drop-drop (length ys) end buf ∙ ap (λ n. drop n buf) far in
+    sym (drop-drop (length ys) end (overwritten at xs buf)) ∙ ap (drop (length ys)) rest ∙ drop-drop (length ys) end buf ∙ ap (λ n. drop n buf) far in
     (λ i. before i ++ (ys ++ after i)) ∙ simp append-assoc
 
 pub then : {at mid end : ℕ} {xs ys a b c : List ℕ} → Put at xs a b mid → Put mid ys b c end → Put at (xs ++ ys) a c end

@@ -23,7 +23,12 @@ pub fn open() -> (OpenJob, Net)
 
 impl OpenJob {
     // The next unit of the job, in its place of the rack; a refused unit comes back.
-    pub fn place<U: Unit + Drop>(&mut self, rack: &mut [U], net: &mut Net, unit: U) -> Result<(), Returned<U>>
+    pub fn place<U: Unit + Drop>(
+        &mut self,
+        rack: &mut [U],
+        net: &mut Net,
+        unit: U,
+    ) -> Result<(), Returned<U>>
         ensures { λ r. ⌜ PlaceAnswers (now (self .entry) .units) (now (rack .entry)) (now (net .entry)) unit r (now (self .exit) .units) (now (rack .exit)) (now (net .exit)) ⌝ }
     {
         if !matches(self.units, rack, net) {

@@ -12,7 +12,7 @@ pub returns-in-Break-len : need.returns-in-Break-len
 returns-in-Break-len c =
     let next = more-within (c .args .fields .now) (c .loop-z .z-index) (c .loop-z-test .taken) (search needs) in
     let many : 2 ^ 64 ≤ length (row-bytes (c .args .fields .now)) =
-      omega (arith, c .in-Break-len .ensures tt, length-row (c .args .fields .now)) in
+    omega (arith, c .in-Break-len .ensures tt, length-row (c .args .fields .now)) in
     simp (c .from-residual .ensures) many
 
 pub loop-z-again : need.loop-z-again
