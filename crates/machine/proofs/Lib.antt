@@ -1,4 +1,2 @@
-pub mod Advancing
 pub mod Chains
-pub mod Stepping
 pub mod Wiring

@@ -14,7 +14,7 @@ use Rattle.std.specs.declared.result.Result.{Result}
 use Rattle.std.specs.declared.result.Result.the-variants.{Ok, Err}
 use Rattle.unit.specs.Figures.{Figures, told-modulus}
 use Rattle.unit.specs.Pulses.{value}
-use Rattle.unit.specs.Racks.{at-place}
+use Rattle.ticks.specs.Racks.{at-place}
 use Rattle.unit.specs.declared.pulse.Pulse.{Pulse}
 use Rattle.unit.specs.declared.pulse.Pulse.the-variants.{Zero}
 use Rattle.unit.specs.declared.refusal.Refusal.{Refusal}
@@ -32,7 +32,7 @@ use Rattle.net.specs.Limits.{most-ticks, most-units}
 use Rattle.net.specs.Records.{record-at, cleared, with-x, with-y, FirstFree}
 use Rattle.net.specs.declared.net.Net.{Net}
 use Rattle.net.specs.declared.record.Record.{Record}
-use Rattle.machine.specs.Ticks.{FirstLeaving, AllAccept, Ticked}
+use Rattle.ticks.specs.Ticks.{FirstLeaving, AllAccept, Ticked}
 use Rattle.machine.specs.declared.job.NotSet.{NotSet}
 use Rattle.machine.specs.declared.job.OpenJob.{OpenJob}
 use Rattle.machine.specs.declared.job.SetJob.{SetJob}

@@ -1,4 +1,2 @@
 pub mod Calls
-pub mod Passes
 pub mod Readings
-pub mod Ticks

@@ -8,7 +8,7 @@ use Rattle.std.specs.declared.result.Result.{Result}
 use Rattle.std.specs.declared.result.Result.the-variants.{Ok, Err}
 use Rattle.rows.specs.Rows.{row-bytes, RowStands}
 use Rattle.unit.specs.Figures.{Figures, weight-now, told-residue}
-use Rattle.unit.specs.Racks.{at-place}
+use Rattle.ticks.specs.Racks.{at-place}
 use Rattle.unit.specs.declared.refusal.Refusal.{Refusal}
 use Rattle.unit.specs.declared.refusal.Refusal.the-variants.{NotThere, BufferTooShort}
 use Rattle.net.specs.Records.{record-at}

@@ -1,5 +1,4 @@
 // Jobs: a rack of units and its net, driven by calls. Written once for every make of unit.
 pub mod job;
 mod matching;
-mod passes;
 pub mod reading;

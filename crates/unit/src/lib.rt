@@ -1,6 +1,5 @@
 // What every unit of the machine means: pulses, tallies, refusals and the trait `Unit`.
 pub mod pulse;
-pub mod rack;
 pub mod refusal;
 pub mod tally;
 pub mod unit;

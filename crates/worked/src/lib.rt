@@ -13,4 +13,6 @@ pub fn worked_examples() -> usize
 }
 
 #[cfg(test)]
+mod jobs;
+#[cfg(test)]
 mod tests;

@@ -8,7 +8,7 @@ use crate::job::OpenJob;
 use crate::job::SetJob;
 use crate::matching::matches;
 use net::net::Net;
-use unit::rack::modulus_at;
+use ticks::rack::modulus_at;
 use unit::refusal::Refusal;
 use unit::refusal::Returned;
 use unit::unit::Unit;

@@ -9,9 +9,9 @@ use crate::matching::matches;
 use crate::reading::Reading;
 use net::net::Net;
 use rows::write_row;
-use unit::rack::position_at;
-use unit::rack::residue_at;
-use unit::rack::weight_at;
+use ticks::rack::position_at;
+use ticks::rack::residue_at;
+use ticks::rack::weight_at;
 use unit::refusal::Refusal;
 use unit::unit::Unit;
 

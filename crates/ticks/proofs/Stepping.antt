@@ -9,7 +9,7 @@ use lib.ListN.{length, getD, set}
 use borrow.Author.Count.{below-more}
 use Rattle.std.proofs.shelf.Lists.{getD-set-other}
 use Rattle.unit.specs.Figures.{Figures}
-use Rattle.unit.specs.Racks.{at-place}
+use Rattle.ticks.specs.Racks.{at-place}
 use Rattle.unit.specs.declared.pulse.Pulse.the-variants.{Zero}
 use Rattle.net.specs.Changes.{TickCounted}
 use Rattle.net.specs.Records.{record-at, blank}
@@ -17,8 +17,8 @@ use Rattle.net.specs.Signals.{InputsOf}
 use Rattle.net.specs.declared.inputs.Inputs.{Inputs}
 use Rattle.net.specs.declared.net.Net.{Net}
 use Rattle.net.specs.declared.record.Record.{Record}
-use Rattle.machine.specs.Passes.{AdvancesAt, Gathered, Stepping}
-use Rattle.machine.specs.Ticks.{Advanced, Ticked, x-pulse, tally}
+use Rattle.ticks.specs.Passes.{AdvancesAt, Gathered, Stepping}
+use Rattle.ticks.specs.Ticks.{Advanced, Ticked, x-pulse, tally}
 
 pub no-inputs : Inputs
 no-inputs = record { x = Zero; tally = record { value = pos 0; bounded = omega arith } }

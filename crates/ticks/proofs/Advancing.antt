@@ -12,7 +12,7 @@ use Rattle.std.specs.declared.option.Option.{Option}
 use Rattle.unit.proofs.Sizes.{small, size-sum}
 use Rattle.unit.specs.Figures.{Figures, Moved, weight-now}
 use Rattle.unit.specs.Pulses.{value}
-use Rattle.unit.specs.Racks.{at-place, MovesAt}
+use Rattle.ticks.specs.Racks.{at-place, MovesAt}
 use Rattle.unit.specs.Sizes.{largest}
 use Rattle.unit.specs.declared.pulse.Pulse.{Pulse}
 use Rattle.wires.specs.declared.tap.Tap.{Tap}
@@ -23,8 +23,8 @@ use Rattle.net.specs.Records.{record-at, blank, Emitted}
 use Rattle.net.specs.declared.inputs.Inputs.{Inputs}
 use Rattle.net.specs.declared.net.Net.{Net}
 use Rattle.net.specs.declared.record.Record.{Record}
-use Rattle.machine.specs.Passes.{RoomAt, AdvancesAt}
-use Rattle.machine.specs.Ticks.{Advanced}
+use Rattle.ticks.specs.Passes.{RoomAt, AdvancesAt}
+use Rattle.ticks.specs.Ticks.{Advanced}
 
 module _ (n : Net) (i : ℕ) (room : RoomAt n i) (z : Pulse) (w : ℤ) (light : natAbs w ≤ largest) (s : Record) (e : Emitted (record-at (n .table .records) i) z w s) where
   pub net-kept : NetWithin (n .ticks) s

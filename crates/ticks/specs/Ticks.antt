@@ -8,7 +8,7 @@ use Rattle.std.specs.declared.option.Option.{Option}
 use Rattle.std.specs.declared.option.Option.the-variants.{Some, None}
 use Rattle.unit.specs.Figures.{Figures, Moved, weight-now}
 use Rattle.unit.specs.Pulses.{value}
-use Rattle.unit.specs.Racks.{at-place, Accepts, AcceptsAt}
+use Rattle.ticks.specs.Racks.{at-place, Accepts, AcceptsAt}
 use Rattle.unit.specs.declared.pulse.Pulse.{Pulse}
 use Rattle.net.specs.Records.{record-at}
 use Rattle.net.specs.Signals.{delivered, sum}

@@ -4,7 +4,7 @@ use native.Mathlib.Omega.{arith}
 use lib.ListN.{length}
 use borrow.Author.Count.{below-more}
 use Rattle.std.proofs.shelf.Lists.{getD-set-same, getD-set-other}
-use Rattle.machine.proofs.passes.gather.Needs as need
+use Rattle.ticks.proofs.passes.gather.Needs as need
 
 pub loop-i-again : need.loop-i-again
 loop-i-again g c =

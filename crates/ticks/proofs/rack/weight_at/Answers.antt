@@ -3,8 +3,8 @@ use mir.Val.{SFits}
 use borrow.Author.Needs.{needs}
 use Rattle.std.proofs.shelf.Lists.{getD-read}
 use Rattle.std.proofs.shelf.Signed.{toZ-ofZ}
 use Rattle.unit.proofs.Answers.{weight-now-short}
-use Rattle.unit.proofs.rack.weight_at.Needs as need
+use Rattle.ticks.proofs.rack.weight_at.Needs as need
 
 pub returns : need.returns
 returns g c =

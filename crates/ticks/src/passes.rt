@@ -1,16 +1,16 @@
 ghost use mathlib.Core.Path.{_≡_};
 ghost use Prim.Native.Nat.{_<_, _≤_};
 ghost use lib.ListN.{length};
-ghost use Rattle.machine.specs.Passes.{Gathered, RoomAt, AdvancesAt};
-ghost use Rattle.machine.specs.Ticks.{AllAccept, FirstLeaving, Ticked};
+ghost use Rattle.ticks.specs.Passes.{Gathered, RoomAt, AdvancesAt};
+ghost use Rattle.ticks.specs.Ticks.{AllAccept, FirstLeaving, Ticked};
 ghost use Rattle.net.specs.Limits.{most-units, most-ticks};
 ghost use Rattle.std.specs.Options.{Cases as BySome};
-ghost use Rattle.unit.specs.Racks.{AcceptsAt};
+ghost use Rattle.ticks.specs.Racks.{AcceptsAt};
+use crate::rack::accepts_at;
+use crate::rack::step_at;
+use crate::rack::weight_at;
 use net::inputs::Inputs;
 use net::net::Net;
-use unit::rack::accepts_at;
-use unit::rack::step_at;
-use unit::rack::weight_at;
 use unit::unit::Unit;
 
 // The first pass: gathers the inputs of all units, as the lines stand, and answers the lowest unit that would leave its

@@ -4,14 +4,14 @@ use mathlib.Core.Path.{_≡_}
 use Prim.Native.Nat.{ℕ, _+_, _<_, _≤_}
 use lib.ListN.{length, getD, set}
 use Rattle.unit.specs.Figures.{Figures}
-use Rattle.unit.specs.Racks.{at-place}
+use Rattle.ticks.specs.Racks.{at-place}
 use Rattle.net.specs.Changes.{Stored}
 use Rattle.net.specs.Bounds.{NetWithin, WorkWithin}
 use Rattle.net.specs.Records.{record-at}
 use Rattle.net.specs.Signals.{InputsOf}
 use Rattle.net.specs.declared.inputs.Inputs.{Inputs}
 use Rattle.net.specs.declared.net.Net.{Net}
-use Rattle.machine.specs.Ticks.{Advanced}
+use Rattle.ticks.specs.Ticks.{Advanced}
 
 -- the inputs of the units below k are gathered
 abbrev pub Gathered : Net → List Inputs → ℕ → Type 0

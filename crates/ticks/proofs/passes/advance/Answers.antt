@@ -7,8 +7,8 @@ use mir.Val.{SFits}
 use borrow.Author.Needs.{needs}
 use Rattle.std.proofs.shelf.Signed.{ints, toZ-ofZ}
 use Rattle.unit.specs.Sizes.{largest}
-use Rattle.machine.proofs.Advancing.{net-kept, work-kept, taps-kept, advances}
-use Rattle.machine.proofs.passes.advance.Needs as need
+use Rattle.ticks.proofs.Advancing.{net-kept, work-kept, taps-kept, advances}
+use Rattle.ticks.proofs.passes.advance.Needs as need
 
 pub store-requires : need.store-requires
 store-requires g c κs =

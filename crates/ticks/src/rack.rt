@@ -3,12 +3,12 @@ ghost use Prim.Native.Nat.{_<_, _≤_};
 ghost use lib.IntN.{natAbs};
 ghost use lib.ListN.{length};
 ghost use Rattle.std.specs.Orderings.{Decides};
 ghost use Rattle.unit.specs.Figures.{weight-now, told-modulus, told-residue};
-ghost use Rattle.unit.specs.Racks.{at-place, Accepts, AcceptsAt, MovesAt};
+ghost use Rattle.ticks.specs.Racks.{at-place, Accepts, AcceptsAt, MovesAt};
 ghost use Rattle.unit.specs.Sizes.{largest};
-use crate::pulse::Pulse;
-use crate::tally::Tally;
-use crate::unit::Unit;
+use unit::pulse::Pulse;
+use unit::tally::Tally;
+use unit::unit::Unit;
 
 // The rack is lent at each call as a slice of units of one make. For the machine alone, which knows that the place is there.
 

@@ -4,9 +4,9 @@ use native.Mathlib.Omega.{arith}
 use lib.ListN.{length}
 use borrow.Author.Needs.{needs}
 use Rattle.std.proofs.shelf.Lists.{getD-default}
-use Rattle.machine.specs.Passes.{Stepping}
-use Rattle.machine.proofs.Stepping.{stepping-more, stepped-all, no-inputs}
-use Rattle.machine.proofs.passes.step_all.Needs as need
+use Rattle.ticks.specs.Passes.{Stepping}
+use Rattle.ticks.proofs.Stepping.{stepping-more, stepped-all, no-inputs}
+use Rattle.ticks.proofs.passes.step_all.Needs as need
 
 pub loop-i-again : need.loop-i-again
 loop-i-again g c =
