@@ -1,2 +1,6 @@
+pub mod Beginning
 pub mod Chains
+pub mod Laws
+pub mod Lines
+pub mod Runs
 pub mod Wiring

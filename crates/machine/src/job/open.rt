@@ -2,6 +2,7 @@ ghost use mathlib.Core.Path.{_≡_};
 ghost use Prim.Native.Nat.{_≤_};
 ghost use lib.ListN.{length};
 ghost use Rattle.machine.specs.Calls.{PlaceAnswers, SetAnswers, FirstUntold};
+ghost use Rattle.machine.specs.Law.{SetLaw};
 ghost use Rattle.net.specs.Changes.{Empty};
 use crate::job::NotSet;
 use crate::job::OpenJob;
@@ -50,8 +51,16 @@ impl OpenJob {
         Ok(())
     }
 
-    // Sets the job: nothing on any line, nothing counted, the units as they are. A refused job comes back.
+    // Sets the job: nothing on any line, nothing counted, the units as they are. A refused job comes back. Whatever calls
+    // follow, the law of runs holds after each of them.
     pub fn set<U: Unit>(self, rack: &[U], net: &mut Net) -> Result<SetJob, NotSet>
+        ensures answers { λ r. ⌜ SetAnswers figures (self .units) (now (rack .entry)) (now (net .entry)) r (now (net .exit)) ⌝ }
+        ensures law { λ r. ⌜ SetLaw figures (self .units) (now (rack .entry)) r (now (net .exit)) ⌝ }
+    {
+        self.set_up(rack, net)
+    }
+
+    fn set_up<U: Unit>(self, rack: &[U], net: &mut Net) -> Result<SetJob, NotSet>
         ensures { λ r. ⌜ SetAnswers figures (self .units) (now (rack .entry)) (now (net .entry)) r (now (net .exit)) ⌝ }
     {
         if !matches(self.units, rack, net) {

@@ -1,0 +1,3 @@
+pub mod Delivering
+pub mod Extending
+pub mod Uniqueness
