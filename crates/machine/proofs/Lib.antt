@@ -1,6 +1,2 @@
-pub mod Beginning
-pub mod Chains
-pub mod Laws
-pub mod Lines
-pub mod Runs
+pub mod Setting
 pub mod Wiring

@@ -17,7 +17,7 @@ use Rattle.net.specs.Limits.{most-units}
 use Rattle.net.specs.Records.{record-at, blank, with-x, with-y}
 use Rattle.net.specs.declared.net.Net.{Net}
 use Rattle.net.specs.declared.record.Record.{Record}
-use Rattle.machine.specs.Calls.{WithTap}
+use Rattle.calls.specs.Calls.{WithTap}
 
 both : (a b : Bool) → T (a && b) → T a × T b
 both true b t = (tt, t)

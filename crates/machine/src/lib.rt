@@ -1,4 +1,3 @@
 // Jobs: a rack of units and its net, driven by calls. Written once for every make of unit.
 pub mod job;
 mod matching;
-pub mod reading;

@@ -1,4 +1,4 @@
-ghost use Rattle.machine.specs.Calls.{Matches};
+ghost use Rattle.calls.specs.Calls.{Matches};
 ghost use Rattle.std.specs.Orderings.{Decides};
 use net::net::Net;
 

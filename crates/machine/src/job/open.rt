@@ -1,8 +1,8 @@
 ghost use mathlib.Core.Path.{_≡_};
 ghost use Prim.Native.Nat.{_≤_};
 ghost use lib.ListN.{length};
-ghost use Rattle.machine.specs.Calls.{PlaceAnswers, SetAnswers, FirstUntold};
-ghost use Rattle.machine.specs.Law.{SetLaw};
+ghost use Rattle.calls.specs.Calls.{PlaceAnswers, FirstUntold};
+ghost use Rattle.machine.specs.Setting.{SetAnswers, SetLaw};
 ghost use Rattle.net.specs.Changes.{Empty};
 use crate::job::NotSet;
 use crate::job::OpenJob;

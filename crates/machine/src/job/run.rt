@@ -1,5 +1,5 @@
 ghost use mathlib.Core.Path.{_≡_};
-ghost use Rattle.machine.specs.Calls.{FeedAsked, FeedAnswers, TickAnswers, Chain, Ended};
+ghost use Rattle.calls.specs.Calls.{FeedAsked, FeedAnswers, TickAnswers, Chain, Ended};
 ghost use Rattle.std.specs.Options.{Cases as BySome};
 ghost use Rattle.unit.specs.declared.pulse.Pulse.{Pulse};
 use crate::job::OpenJob;

@@ -1,12 +1,12 @@
 ghost use mathlib.Core.Path.{_≡_};
 ghost use Prim.Native.Nat.{_<_};
 ghost use lib.ListN.{length};
-ghost use Rattle.machine.specs.Readings.{Reads, ReadAnswers, RowAnswers, fields-of};
+ghost use Rattle.calls.specs.Readings.{Reads, ReadAnswers, RowAnswers, fields-of};
 ghost use Rattle.net.specs.Limits.{most-units};
 ghost use Rattle.rows.specs.Rows.{RowWritten};
 use crate::job::SetJob;
 use crate::matching::matches;
-use crate::reading::Reading;
+use calls::reading::Reading;
 use net::net::Net;
 use rows::write_row;
 use ticks::rack::position_at;

@@ -1,4 +1,4 @@
-ghost use Rattle.machine.specs.Calls.{PlugAnswers, ClearAnswers, WithTap};
+ghost use Rattle.calls.specs.Calls.{PlugAnswers, ClearAnswers, WithTap};
 use crate::job::OpenJob;
 use crate::matching::matches;
 use net::net::Net;

@@ -1,6 +1,6 @@
 use mathlib.Core.Path.{refl}
 use Rattle.std.proofs.shelf.Ways.{not-from-decides}
-use Rattle.machine.specs.Calls.{other, for-fault, not-in-job}
+use Rattle.calls.specs.Calls.{other, for-fault, not-in-job}
 use Rattle.machine.proofs.job.OpenJob.clear.Needs as need
 
 pub returns-then-not-matches : need.returns-then-not-matches

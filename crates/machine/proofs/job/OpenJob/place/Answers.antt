@@ -1,7 +1,7 @@
 use mathlib.Core.Logic.{⊎-elim, inl, inr}
 use mathlib.Core.Path.{refl}
 use Rattle.std.proofs.shelf.Ways.{not-from-decides}
-use Rattle.machine.specs.Calls.{other, for-fault, full}
+use Rattle.calls.specs.Calls.{other, for-fault, full}
 use Rattle.machine.proofs.job.OpenJob.place.Needs as need
 
 pub returns-then-not-matches : need.returns-then-not-matches

@@ -7,7 +7,7 @@ use Rattle.std.proofs.shelf.Ways.{not-from-decides}
 use Rattle.wires.specs.Sources.{there}
 use Rattle.wires.specs.declared.tap.Tap.{Tap}
 use Rattle.net.specs.Limits.{most-units}
-use Rattle.machine.specs.Calls.{other, for-fault, no-sign, no-source, no-unit, taken}
+use Rattle.calls.specs.Calls.{other, for-fault, no-sign, no-source, no-unit, taken}
 use Rattle.machine.proofs.Wiring.{with-tap-storable, storable}
 use Rattle.machine.proofs.job.OpenJob.plug.Needs as need
 

@@ -1,4 +1,4 @@
-use Rattle.machine.proofs.Laws.{law-of}
+use Rattle.machine.proofs.Setting.{law-of}
 use Rattle.machine.proofs.job.OpenJob.set.Needs as need
 
 pub returns : need.returns

@@ -1,7 +1,7 @@
 use mathlib.Core.Path.{refl}
 use native.Mathlib.Omega.{arith}
 use Rattle.std.proofs.shelf.Ways.{not-from-decides}
-use Rattle.machine.specs.Calls.{other, for-fault, no-units, untold}
+use Rattle.calls.specs.Calls.{other, for-fault, no-units, untold}
 use Rattle.machine.proofs.job.OpenJob.set_up.Needs as need
 
 pub returns-then-not-matches : need.returns-then-not-matches

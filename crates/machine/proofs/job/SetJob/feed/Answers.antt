@@ -1,7 +1,7 @@
 use mathlib.Core.Path.{refl, sym, _∙_}
 use Rattle.std.proofs.shelf.Signed.{toZ-ofZ}
 use Rattle.std.proofs.shelf.Ways.{not-from-decides}
-use Rattle.machine.specs.Calls.{other, for-fault, no-feed, waiting}
+use Rattle.calls.specs.Calls.{other, for-fault, no-feed, waiting}
 use Rattle.machine.proofs.job.SetJob.feed.Needs as need
 
 pub returns-then-not-matches : need.returns-then-not-matches

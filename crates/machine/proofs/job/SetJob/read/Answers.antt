@@ -1,6 +1,6 @@
 use Rattle.std.proofs.shelf.Ways.{not-from-decides}
-use Rattle.machine.specs.Calls.{other, for-fault}
-use Rattle.machine.specs.Readings.{not-read}
+use Rattle.calls.specs.Calls.{other, for-fault}
+use Rattle.calls.specs.Readings.{not-read}
 use Rattle.machine.proofs.job.SetJob.read.Needs as need
 
 pub returns-then-not-matches : need.returns-then-not-matches

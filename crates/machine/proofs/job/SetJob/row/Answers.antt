@@ -1,7 +1,7 @@
 use mathlib.Core.Path.{refl}
 use Rattle.std.proofs.shelf.Ways.{not-from-decides}
-use Rattle.machine.specs.Calls.{other, for-fault}
-use Rattle.machine.specs.Readings.{no-row, too-short}
+use Rattle.calls.specs.Calls.{other, for-fault}
+use Rattle.calls.specs.Readings.{no-row, too-short}
 use Rattle.machine.proofs.job.SetJob.row.Needs as need
 
 pub returns-then-not-matches : need.returns-then-not-matches

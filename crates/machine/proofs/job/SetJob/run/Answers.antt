@@ -1,6 +1,6 @@
 use Rattle.std.proofs.shelf.Ways.{not-from-decides}
-use Rattle.machine.specs.Calls.{Chain, none, more, other}
-use Rattle.machine.proofs.Chains.{still-matches}
+use Rattle.calls.specs.Calls.{Chain, none, more, other}
+use Rattle.calls.proofs.Chains.{still-matches}
 use Rattle.machine.proofs.job.SetJob.run.Needs as need
 
 pub returns-then-not-matches : need.returns-then-not-matches

@@ -1,4 +1,4 @@
-use Rattle.machine.specs.Calls.{Chain, Matches}
+use Rattle.calls.specs.Calls.{Chain, Matches}
 use Rattle.machine.proofs.job.SetJob.run.Given as given
 
 abbrev pub Inv-loop-made : given.InvT-loop-made

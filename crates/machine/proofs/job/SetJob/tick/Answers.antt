@@ -1,7 +1,7 @@
 use mathlib.Core.Path.{refl}
 use native.Mathlib.Omega.{arith}
 use Rattle.std.proofs.shelf.Ways.{not-from-decides}
-use Rattle.machine.specs.Calls.{other, for-fault, spent, leaves}
+use Rattle.calls.specs.Calls.{other, for-fault, spent, leaves}
 use Rattle.machine.proofs.job.SetJob.tick.Needs as need
 
 pub returns-then-not-matches : need.returns-then-not-matches

@@ -1,4 +1,4 @@
-use Rattle.machine.specs.Calls.{AllTold}
+use Rattle.calls.specs.Calls.{AllTold}
 use Rattle.machine.proofs.job.open.first_untold.Given as given
 
 abbrev pub Inv-loop-i : given.InvT-loop-i

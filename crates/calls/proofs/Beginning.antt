@@ -17,9 +17,9 @@ use Rattle.net.specs.declared.record.Record.{Record}
 use Rattle.runs.specs.Histories as runs
 use Rattle.runs.specs.Histories.{Wired, IsUnit}
 use Rattle.runs.specs.Standing.{Stands, Describes}
-use Rattle.machine.specs.Calls.{Matches}
-use Rattle.machine.specs.Law.{waits, lines-after, zipped, wired-units}
-use Rattle.machine.proofs.Runs.{Kept}
+use Rattle.calls.specs.Calls.{Matches}
+use Rattle.calls.specs.Law.{waits, lines-after, zipped, wired-units}
+use Rattle.calls.proofs.Runs.{Kept}
 
 abbrev wired : Figures → Record → Wired
 wired f r = record { start = f; x = r .x; y = r .y }

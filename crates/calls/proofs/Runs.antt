@@ -29,10 +29,10 @@ use Rattle.runs.specs.Histories.{Wired, Tick, History, IsUnit, Fits}
 use Rattle.runs.specs.Standing.{Stands, Describes, next-fed, tick-of}
 use Rattle.runs.proofs.Extending.{describes-more, fits-more, pick, sum-is}
 use Rattle.runs.proofs.Uniqueness.{unit-at}
-use Rattle.machine.specs.Calls.{Matches, Refused, other, for-fault, Fed, TickFault, spent, leaves, TickMade, TickAnswers, Chain, none, more}
-use Rattle.machine.specs.Law.{Lines, NextFits, oldest, waits, fed, ticked, ticked-by}
-use Rattle.machine.proofs.Chains.{still-matches}
-use Rattle.machine.proofs.Lines.{given-by, emptied-by, fed-by, ticked-more}
+use Rattle.calls.specs.Calls.{Matches, Refused, other, for-fault, Fed, TickFault, spent, leaves, TickMade, TickAnswers, Chain, none, more}
+use Rattle.calls.specs.Law.{Lines, NextFits, oldest, waits, fed, ticked, ticked-by}
+use Rattle.calls.proofs.Chains.{still-matches}
+use Rattle.calls.proofs.Lines.{given-by, emptied-by, fed-by, ticked-more}
 
 pub record Kept {U : Type 0} (figures : U → Figures) (units : ℕ) (ws : List Wired) (s : Lines) (us : List U) (n : Net) : Type 0 where
   pub matches : Matches units us n

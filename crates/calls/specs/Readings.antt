@@ -13,8 +13,8 @@ use Rattle.unit.specs.declared.refusal.Refusal.{Refusal}
 use Rattle.unit.specs.declared.refusal.Refusal.the-variants.{NotThere, BufferTooShort}
 use Rattle.net.specs.Records.{record-at}
 use Rattle.net.specs.declared.net.Net.{Net}
-use Rattle.machine.specs.Calls.{Matches, Refused}
-use Rattle.machine.specs.declared.reading.Reading.{Reading}
+use Rattle.calls.specs.Calls.{Matches, Refused}
+use Rattle.calls.specs.declared.reading.Reading.{Reading}
 
 module _ {U : Type 0} (figures : U → Figures) (us : List U) (n : Net) (i : ℕ) where
   -- the figures of the unit at place i

@@ -21,11 +21,9 @@ use Rattle.net.specs.declared.net.Net.{Net}
 use Rattle.net.specs.declared.record.Record.{Record}
 use Rattle.runs.specs.Histories as runs
 use Rattle.runs.specs.Histories.{Wired, Tick, History, IsUnit, Fits, lines, tally, position, all-delivered}
-use Rattle.machine.specs.Calls.{Matches, FeedAnswers, TickAnswers, Chain, Ended}
-use Rattle.machine.specs.Readings.{Reads, ReadAnswers, RowAnswers}
-use Rattle.machine.specs.declared.job.NotSet.{NotSet}
-use Rattle.machine.specs.declared.job.SetJob.{SetJob}
-use Rattle.machine.specs.declared.reading.Reading.{Reading}
+use Rattle.calls.specs.Calls.{Matches, FeedAnswers, TickAnswers, Chain, Ended}
+use Rattle.calls.specs.Readings.{Reads, ReadAnswers, RowAnswers}
+use Rattle.calls.specs.declared.reading.Reading.{Reading}
 
 -- ---- the calls
 -- a call that may follow set, with what it was asked and what it answered
@@ -145,8 +143,3 @@ pub record LawHolds {U : Type 0} (figures : U → Figures) (units : ℕ) (ws : L
   pub only : (g : History) → map (λ t. t .fed) g ≡ map (λ t. t .fed) history → Fits ws g → g ≡ history
   -- what read and row tell
   pub tells : (i : ℕ) (w : Wired) → IsUnit ws i w → (r : Reading) → Reads figures us n i r → Tells i w history r
-
--- whatever the order of the calls
-abbrev pub SetLaw : {U : Type 0} → (U → Figures) → ℕ → List U → Result SetJob NotSet → Net → Type 0
-SetLaw {U} figures units us (Ok job) n = (cs : List Call) (vs : List U) (m : Net) → Follow figures units us n cs vs m → LawHolds figures units (wired-units figures units us n) cs vs m
-SetLaw figures units us (Err e) n = Unit {0}

@@ -5,7 +5,7 @@ use Prim.Native.Nat.{ℕ}
 use native.Mathlib.Omega.{arith}
 use Rattle.unit.specs.Figures.{Figures}
 use Rattle.net.specs.declared.net.Net.{Net}
-use Rattle.machine.specs.Calls.{Matches, TickMade}
+use Rattle.calls.specs.Calls.{Matches, TickMade}
 
 -- an accepted tick leaves a rack and a net that belong to the job
 pub still-matches : {U : Type 0} (figures : U → Figures) (units : ℕ) (us : List U) (n : Net) (vs : List U) (m : Net) → TickMade figures units us n vs m → Matches units vs m

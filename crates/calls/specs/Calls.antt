@@ -33,9 +33,6 @@ use Rattle.net.specs.Records.{record-at, cleared, with-x, with-y, FirstFree}
 use Rattle.net.specs.declared.net.Net.{Net}
 use Rattle.net.specs.declared.record.Record.{Record}
 use Rattle.ticks.specs.Ticks.{FirstLeaving, AllAccept, Ticked}
-use Rattle.machine.specs.declared.job.NotSet.{NotSet}
-use Rattle.machine.specs.declared.job.OpenJob.{OpenJob}
-use Rattle.machine.specs.declared.job.SetJob.{SetJob}
 
 -- the rack has a place for each unit of the job, and the net counts the same units
 pub record Matches {U : Type 0} (units : ℕ) (us : List U) (n : Net) : Type 0 where
@@ -143,10 +140,6 @@ module _ {U : Type 0} (figures : U → Figures) (units : ℕ) (us : List U) (n :
   pub data SetFault : Refusal → Type 0 where
     no-units : units ≡ 0 → SetFault NoUnits
     untold : 0 < units → (k : ℕ) → FirstUntold figures units us (Some k) → SetFault (ModulusUntold k)
-
-  abbrev pub SetAnswers : Result SetJob NotSet → Net → Type 0
-  SetAnswers (Ok job) m = Matches units us n × (0 < units) × AllTold figures units us units × (job .units ≡ units) × Reset n m
-  SetAnswers (Err e) m = Refused units us n SetFault (e .refusal) × (e .job .units ≡ units) × (m ≡ n)
 
   -- tick
   pub data TickFault : Refusal → Type 0 where

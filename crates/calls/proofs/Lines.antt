@@ -13,7 +13,7 @@ use Rattle.std.specs.declared.option.Option.the-variants.{Some, None}
 use Rattle.unit.specs.Pulses.{value}
 use Rattle.unit.specs.declared.pulse.Pulse.{Pulse}
 use Rattle.net.specs.Signals.{or-zero}
-use Rattle.machine.specs.Law.{Lines, oldest, without-oldest, waits, ticked, ticked-by}
+use Rattle.calls.specs.Law.{Lines, oldest, without-oldest, waits, ticked, ticked-by}
 
 oldest-waits : (o : Option Pulse) → oldest (waits o) ≡ value (or-zero o)
 oldest-waits None = refl

@@ -26,14 +26,12 @@ use Rattle.runs.specs.Standing.{Stands}
 use Rattle.runs.proofs.Delivering.{position-delivered}
 use Rattle.runs.proofs.Extending.{pick}
 use Rattle.runs.proofs.Uniqueness.{only-one-fits}
-use Rattle.machine.specs.Calls.{Matches, Refused, TickFault, AllTold, SetAnswers}
-use Rattle.machine.specs.Law.{Call, feed, tick, run, read, row, Follow, at-set, then-feed, then-tick, then-run, then-read, then-row, Lines, lines-after, oldest, wired-units, Closes, NextFits, Tells, TickRefusedLast, LawHolds, SetLaw}
-use Rattle.machine.specs.Readings.{Reads}
-use Rattle.machine.specs.declared.job.NotSet.{NotSet}
-use Rattle.machine.specs.declared.job.SetJob.{SetJob}
-use Rattle.machine.specs.declared.reading.Reading.{Reading}
-use Rattle.machine.proofs.Beginning.{wired-is, as-many, begins}
-use Rattle.machine.proofs.Runs.{Kept, kept-tick, kept-feed, kept-chain, refused-fits-not, decides-next}
+use Rattle.calls.specs.Calls.{Matches, Refused, TickFault, AllTold}
+use Rattle.calls.specs.Law.{Call, feed, tick, run, read, row, Follow, at-set, then-feed, then-tick, then-run, then-read, then-row, Lines, lines-after, oldest, wired-units, Closes, NextFits, Tells, TickRefusedLast, LawHolds}
+use Rattle.calls.specs.Readings.{Reads}
+use Rattle.calls.specs.declared.reading.Reading.{Reading}
+use Rattle.calls.proofs.Beginning.{wired-is, as-many, begins}
+use Rattle.calls.proofs.Runs.{Kept, kept-tick, kept-feed, kept-chain, refused-fits-not, decides-next}
 
 -- modulus times net and residue against work
 summed : (mnet work start f : ℤ) → f ≡ (start +ℤ work) -ℤ mnet → (mnet +ℤ f) -ℤ start ≡ work
@@ -119,7 +117,7 @@ module _ {U : Type 0} (figures : U → Figures) (law : (u : U) → Lawful (figur
         }
 
 -- from what set leaves
-set-law : {U : Type 0} (figures : U → Figures) (law : (u : U) → Lawful (figures u)) (units : ℕ) (us : List U) (n m : Net) → Matches units us n → AllTold figures units us units → Reset n m
+pub set-law : {U : Type 0} (figures : U → Figures) (law : (u : U) → Lawful (figures u)) (units : ℕ) (us : List U) (n m : Net) → Matches units us n → AllTold figures units us units → Reset n m
   → (cs : List Call) (vs : List U) (o : Net) → Follow figures units us m cs vs o → LawHolds figures units (wired-units figures units us m) cs vs o
 set-law {U} figures law units us n m belongs all reset =
     let ws = wired-units figures units us m in
@@ -131,7 +129,3 @@ set-law {U} figures law units us n m belongs all reset =
       let f = figures (getD us i (unit i w is)) in
       let below : i < units = let a = as-many figures units us n m belongs reset in omega (arith, is .0) in
       subst (λ (g : Figures). g .constants .modulus ≤ largest) (sym (start-is i w is)) (told-or-not f (λ few. few) (λ large. absurd (all i below (unit i w is) (untold f large .0)))))
-
-pub law-of : {U : Type 0} (figures : U → Figures) (law : (u : U) → Lawful (figures u)) (units : ℕ) (us : List U) (n : Net) (r : Result SetJob NotSet) (m : Net) → SetAnswers figures units us n r m → SetLaw figures units us r m
-law-of figures law units us n (Ok job) m a = set-law figures law units us n m (a .0) (a .2) (a .4)
-law-of figures law units us n (Err e) m a = tt

@@ -1,0 +1,5 @@
+pub mod Beginning
+pub mod Chains
+pub mod Laws
+pub mod Lines
+pub mod Runs
