@@ -1,5 +1,5 @@
 -- What a run keeps true from call to call: its history, its lines, its figures.
-use mathlib.Core.Bool.{Bool, true, false, _&&_}
+use mathlib.Core.Bool.{true, false}
 use mathlib.Core.List.{List, [], _∷_, _++_, map}
 use mathlib.Core.Path.{_≡_, refl, sym, ap, subst, _∙_}
 use Prim.Native.Nat.{ℕ, _+_, _<_, _≤_}
@@ -12,6 +12,7 @@ use Rattle.std.specs.Results.{isOk}
 use Rattle.std.specs.declared.option.Option.{Option}
 use Rattle.std.specs.declared.result.Result.{Result}
 use Rattle.std.specs.declared.result.Result.the-variants.{Ok, Err}
+use Rattle.unit.proofs.Truth.{both}
 use Rattle.unit.specs.Figures.{Figures, Constants, Inside, Lawful}
 use Rattle.unit.specs.Pulses.{value}
 use Rattle.unit.specs.declared.pulse.Pulse.{Pulse}
@@ -41,10 +42,6 @@ pub record Kept {U : Type 0} (figures : U → Figures) (units : ℕ) (ws : List 
   pub waiting : map waits (n .outside) ≡ s .waiting
   pub fits : Fits ws history
   pub describes : Describes figures ws history us n
-
-both : (a b : Bool) → T (a && b) → T a × T b
-both true b t = (tt, t)
-both false b t = absurd t
 
 -- the y taps of a unit of the job read what is there
 wired-y : (n : Net) (i : ℕ) → i < n .count → T (taps-there (n .count) (record-at (n .table .records) i .y))

@@ -5,12 +5,12 @@ use native.Mathlib.Omega.{arith}
 use lib.IntN.{ℤ, pos, negℤ, natAbs, _+ℤ_, _*ℤ_}
 use Rattle.std.proofs.shelf.Signed.{ints}
 use Rattle.unit.specs.Figures.{Constants, Figures, Inside, Lawful, Moved}
-use Rattle.unit.specs.Pulses.{value, opposite}
+use Rattle.unit.specs.Pulses.{value}
 use Rattle.unit.specs.Solutions.{InBand, Solves}
 use Rattle.unit.specs.declared.pulse.Pulse.{Pulse}
-use Rattle.unit.specs.declared.pulse.Pulse.the-variants.{Minus, Zero, Plus}
 use Rattle.unit.proofs.Division.{only-solution}
 use Rattle.unit.proofs.Products.{times-neg, neg-times}
+use Rattle.unit.proofs.Signs.{opposite-value}
 use Rattle.layers.specs.Turns.{turned, turned-pulse}
 use Rattle.layers.specs.declared.turn.Sense.{Sense}
 use Rattle.layers.specs.declared.turn.Sense.the-variants.{Upright, Inverted}
@@ -37,11 +37,6 @@ turned-lawful Inverted f law =
       position = law .position;
       residue = mirrored _ _ _ (law .residue);
     }
-
-opposite-value : (z : Pulse) → value (opposite z) ≡ negℤ (value z)
-opposite-value Minus = refl
-opposite-value Zero = refl
-opposite-value Plus = refl
 
 mirrored-solution : (m : ℕ) (low r w x z q : ℤ) → Solves m low (r +ℤ (w *ℤ x)) z q → Solves m (negℤ ((low +ℤ pos m) +ℤ negℤ (pos 1))) (negℤ r +ℤ (negℤ w *ℤ x)) (negℤ z) (negℤ q)
 mirrored-solution m low r w x z q s =

@@ -1,5 +1,4 @@
 -- One tap more: the record keeps the bounds of the net, and its taps read what is there.
-use mathlib.Core.Bool.{Bool, true, false, _&&_}
 use mathlib.Core.List.{List, [], _∷_}
 use mathlib.Core.Path.{_≡_, sym, ap, subst}
 use Prim.Native.Nat.{ℕ, zero, suc, _<_}
@@ -8,6 +7,7 @@ use lib.Dec.{T}
 use lib.ListN.{set}
 use Rattle.std.specs.declared.option.Option.{Option}
 use Rattle.std.specs.declared.option.Option.the-variants.{Some, None}
+use Rattle.unit.proofs.Truth.{both, joined}
 use Rattle.wires.specs.Sources.{there}
 use Rattle.wires.specs.declared.tap.Input.{Input}
 use Rattle.wires.specs.declared.tap.Input.the-variants.{X, Y}
@@ -18,14 +18,6 @@ use Rattle.net.specs.Records.{record-at, blank, with-x, with-y}
 use Rattle.net.specs.declared.net.Net.{Net}
 use Rattle.net.specs.declared.record.Record.{Record}
 use Rattle.calls.specs.Calls.{WithTap}
-
-both : (a b : Bool) → T (a && b) → T a × T b
-both true b t = (tt, t)
-both false b t = absurd t
-
-joined : (a b : Bool) → T a → T b → T (a && b)
-joined true b p q = q
-joined false b p q = absurd p
 
 set-there : (units : ℕ) (taps : List (Option Tap)) (k : ℕ) (tap : Option Tap) → T (tap-there units tap) → T (taps-there units taps) → T (taps-there units (set taps k tap))
 set-there units [] zero tap h all = tt

@@ -1,5 +1,4 @@
 -- What holds of every record of a net, and goes on to hold after a change.
-use mathlib.Core.Bool.{Bool, true, false, _&&_}
 use mathlib.Core.List.{List, [], _∷_}
 use mathlib.Core.Logic.{⊎-elim}
 use mathlib.Core.Path.{_≡_, sym, subst}
@@ -13,6 +12,7 @@ use Rattle.std.proofs.shelf.Tests.{cases-lt}
 use Rattle.std.specs.declared.option.Option.{Option}
 use Rattle.std.specs.declared.option.Option.the-variants.{Some, None}
 use Rattle.std.specs.shelf.Lists.{Every}
+use Rattle.unit.proofs.Truth.{both, joined}
 use Rattle.wires.specs.Sources.{there}
 use Rattle.wires.specs.declared.source.Source.{Source}
 use Rattle.wires.specs.declared.source.Source.the-variants.{Place, Outside, Clock}
@@ -50,14 +50,6 @@ every-emptied P Q rs ss full e then all =
     every-at Q ss full (λ k h. subst Q (sym (e .each k h)) (then _ (all k blank (omega arith) h)))
 
 -- ---- one unit more keeps what is there
-both : (a b : Bool) → T (a && b) → T a × T b
-both true b t = (tt, t)
-both false b t = absurd t
-
-joined : (a b : Bool) → T a → T b → T (a && b)
-joined true b p q = q
-joined false b p q = absurd p
-
 source-more : (n : ℕ) (s : Source) → T (there n s) → T (there (n + 1) s)
 source-more n (Place j) h =
     let p = both (ltb j n) (ltb j 64) h in

@@ -1,21 +1,21 @@
 -- An accepted tick makes a history one tick longer.
-use mathlib.Core.Bool.{Bool, true, false, _&&_}
 use mathlib.Core.List.{List, [], _∷_, map}
 use mathlib.Core.Path.{_≡_, refl, sym, ap, subst, _∙_}
 use Prim.Native.Nat.{ℕ, zero, suc, _+_, _<_, _≤_}
 use native.Mathlib.Omega.{arith}
 use lib.Dec.{T, ltb, ltb→lt}
-use lib.IntN.{ℤ, pos, negℤ, _+ℤ_, _-ℤ_, _*ℤ_}
+use lib.IntN.{ℤ, pos, _+ℤ_, _-ℤ_, _*ℤ_}
 use lib.ListN.{length, getD, take}
 use Rattle.std.proofs.shelf.Lists.{getD-map, getD-take, length-map, length-take-le}
 use Rattle.std.proofs.shelf.Signed.{ints}
 use Rattle.std.specs.declared.option.Option.{Option}
 use Rattle.std.specs.declared.option.Option.the-variants.{Some, None}
 use Rattle.unit.proofs.Products.{times-plus}
+use Rattle.unit.proofs.Signs.{opposite-value}
+use Rattle.unit.proofs.Truth.{both}
 use Rattle.unit.specs.Figures.{Figures, Constants, Inside, Banded, Lawful, Moved}
-use Rattle.unit.specs.Pulses.{value, opposite}
+use Rattle.unit.specs.Pulses.{value}
 use Rattle.unit.specs.declared.pulse.Pulse.{Pulse}
-use Rattle.unit.specs.declared.pulse.Pulse.the-variants as pulses
 use Rattle.wires.specs.Sources.{there}
 use Rattle.wires.specs.Taps.{signed}
 use Rattle.wires.specs.declared.source.Source.{Source}
@@ -34,18 +34,9 @@ use Rattle.runs.specs.Histories.{Wired, Tick, History, IsUnit, Fits, lines, gi
 use Rattle.runs.specs.Standing.{Stands, Describes, next-fed, tick-of}
 use Rattle.runs.proofs.Uniqueness.{unit-at}
 
-opposite-value : (z : Pulse) → value (opposite z) ≡ negℤ (value z)
-opposite-value pulses.Minus = refl
-opposite-value pulses.Zero = refl
-opposite-value pulses.Plus = refl
-
 signed-value : (s : Sign) (z : Pulse) → value (signed s z) ≡ times s (value z)
 signed-value Plus z = refl
 signed-value Minus z = opposite-value z
-
-both : (a b : Bool) → T (a && b) → T a × T b
-both true b t = (tt, t)
-both false b t = absurd t
 
 -- what the outside lines give, as a list of whole numbers
 fed-at : (os : List (Option Pulse)) (l : ℕ) → value (or-zero (getD os l None)) ≡ getD (map (λ o. value (or-zero o)) os) l (pos 0)

@@ -1,4 +1,6 @@
 pub mod Answers
 pub mod Division
 pub mod Products
+pub mod Signs
 pub mod Sizes
+pub mod Truth

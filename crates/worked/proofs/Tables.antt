@@ -10,16 +10,13 @@ use lib.Signed.{leZ, ltZ, _≤ℤ_}
 use Rattle.std.proofs.shelf.Signed.{ints}
 use Rattle.std.specs.shelf.Lists.{All}
 use Rattle.unit.proofs.Division.{only-solution}
+use Rattle.unit.proofs.Truth.{both, joined}
 use Rattle.unit.specs.Figures.{Constants, Figures, Inside, Moved}
 use Rattle.unit.specs.Pulses.{value}
 use Rattle.unit.specs.Solutions.{OnlySolution}
 use Rattle.unit.specs.declared.pulse.Pulse.{Pulse}
 use Rattle.unit.specs.declared.pulse.Pulse.the-variants.{Plus}
 use Rattle.worked.specs.Examples.{Example, steps, accepts, refuses, counts, grows, Grows, Holds, examples}
-
-both : (a b : Bool) → T (a && b) → T a × T b
-both true b t = (tt, t)
-both false b t = absurd t
 
 neither : (a : Bool) → T (not a) → T a → ⊥
 neither true t = λ u. t
@@ -53,10 +50,7 @@ stands k p t = let ends = both _ _ t in record { above = record { le = ends .0 }
 
 outside : (k : Constants) (p : ℤ) → T (not (standing k p)) → Inside k p → ⊥
 unfolding standing
-outside k p t i = neither _ t (joined (leZ (k .bottom) p) (leZ p (k .top)) (i .above .le) (i .below .le)) where
-  joined : (a b : Bool) → T a → T b → T (a && b)
-  joined true b p q = q
-  joined false b p q = absurd p
+outside k p t i = neither _ t (joined (leZ (k .bottom) p) (leZ p (k .top)) (i .above .le) (i .below .le))
 
 abbrev after-step : Figures → ℤ → ℤ → Figures
 after-step f s r = record { constants = f .constants; position = f .position +ℤ s; residue = r }
