@@ -81,7 +81,7 @@ module _ {U : Type 0} (figures : U → Figures) (law : (u : U) → Lawful (figur
         record {
           sum = ap (λ (x : ℤ). (x +ℤ figures (getD vs i u) .residue) -ℤ w .start .residue) nets ∙ summed (M *ℤ runs.net i h) (runs.work w h) (w .start .residue) (figures (getD vs i u) .residue) (here .residue) ∙ sym (here .work);
           near = subst (λ (x : ℤ). natAbs x < w .start .constants .modulus) same
-            (near-by (w .start .constants .modulus) (w .start .constants .low) (M *ℤ runs.net i h) (runs.work w h) (w .start .residue) (figures (getD vs i u) .residue) (here .residue) band (lawful i w is .residue));
+              (near-by (w .start .constants .modulus) (w .start .constants .low) (M *ℤ runs.net i h) (runs.work w h) (w .start .residue) (figures (getD vs i u) .residue) (here .residue) band (lawful i w is .residue));
         }
 
     tells : (s : Lines) (vs : List U) (m : Net) (k : Kept figures units ws s vs m) (i : ℕ) (w : Wired) → IsUnit ws i w → (r : Reading) → Reads figures vs m i r → Tells i w (k .history) r
@@ -118,7 +118,7 @@ module _ {U : Type 0} (figures : U → Figures) (law : (u : U) → Lawful (figur
 
 -- from what set leaves
 pub set-law : {U : Type 0} (figures : U → Figures) (law : (u : U) → Lawful (figures u)) (units : ℕ) (us : List U) (n m : Net) → Matches units us n → AllTold figures units us units → Reset n m
-  → (cs : List Call) (vs : List U) (o : Net) → Follow figures units us m cs vs o → LawHolds figures units (wired-units figures units us m) cs vs o
+    → (cs : List Call) (vs : List U) (o : Net) → Follow figures units us m cs vs o → LawHolds figures units (wired-units figures units us m) cs vs o
 set-law {U} figures law units us n m belongs all reset =
     let ws = wired-units figures units us m in
     let unit : (i : ℕ) (w : Wired) → IsUnit ws i w → U = λ i w is. pick us i (let a = as-many figures units us n m belongs reset in let r = belongs .room in omega (arith, is .0)) in
@@ -126,6 +126,6 @@ set-law {U} figures law units us n m belongs all reset =
     law-holds figures law units ws us m (begins figures units us n m belongs reset)
     (λ i w is. subst Lawful (sym (start-is i w is)) (law (getD us i (unit i w is))))
     (λ i w is.
-      let f = figures (getD us i (unit i w is)) in
-      let below : i < units = let a = as-many figures units us n m belongs reset in omega (arith, is .0) in
-      subst (λ (g : Figures). g .constants .modulus ≤ largest) (sym (start-is i w is)) (told-or-not f (λ few. few) (λ large. absurd (all i below (unit i w is) (untold f large .0)))))
+    let f = figures (getD us i (unit i w is)) in
+    let below : i < units = let a = as-many figures units us n m belongs reset in omega (arith, is .0) in
+    subst (λ (g : Figures). g .constants .modulus ≤ largest) (sym (start-is i w is)) (told-or-not f (λ few. few) (λ large. absurd (all i below (unit i w is) (untold f large .0)))))

@@ -71,8 +71,8 @@ module _ {U : Type 0} (figures : U → Figures) (law : (u : U) → Lawful (figur
         history = k .history;
         feeds = k .feeds;
         waiting = ap (map waits) (f .net .outside) ∙ fed-by (n .outside) l (f .pulse) (f .free)
-          ∙ ap (λ (q : List (List ℤ)). set q l (getD q l [] ++ (value (f .pulse) ∷ []))) (k .waiting)
-          ∙ ap (λ (x : ℤ). set (s .waiting) l (getD (s .waiting) l [] ++ (x ∷ []))) (f .asked .pulse);
+            ∙ ap (λ (q : List (List ℤ)). set q l (getD q l [] ++ (value (f .pulse) ∷ []))) (k .waiting)
+            ∙ ap (λ (x : ℤ). set (s .waiting) l (getD (s .waiting) l [] ++ (x ∷ []))) (f .asked .pulse);
         fits = k .fits;
         describes = record {
           count = f .net .count ∙ d .count;

@@ -135,8 +135,8 @@ module _ {U : Type 0} (figures : U → Figures) (law : (u : U) → Lawful (figur
         let g = figures (getD vs i u) in
         let gain = w .start .constants .weight (runs.position w (newest ∷ h)) *ℤ delivers (lines h) (newest .fed) (w .x) in
         let step : (pos M *ℤ z) +ℤ g .residue ≡ f .residue +ℤ gain =
-          sym (ap (λ (k : Constants). (pos (k .modulus) *ℤ value (record-at (m .table .records) i .line)) +ℤ g .residue) (before .constants) ∙ ap (λ (v : ℤ). (pos M *ℤ v) +ℤ g .residue) pulse-is)
-          ∙ share .moved .balance .solves .equation ∙ ap (λ (v : ℤ). f .residue +ℤ v) gain-is in
+        sym (ap (λ (k : Constants). (pos (k .modulus) *ℤ value (record-at (m .table .records) i .line)) +ℤ g .residue) (before .constants) ∙ ap (λ (v : ℤ). (pos M *ℤ v) +ℤ g .residue) pulse-is)
+        ∙ share .moved .balance .solves .equation ∙ ap (λ (v : ℤ). f .residue +ℤ v) gain-is in
         solved (w .start .residue) (runs.work w h) gain (pos M *ℤ runs.net i h) (pos M *ℤ z) (f .residue) (g .residue) (before .residue) step
         ∙ ap (λ (v : ℤ). (w .start .residue +ℤ (runs.work w h +ℤ gain)) -ℤ v) (sym (times-plus (pos M) (runs.net i h) z))
 
@@ -172,8 +172,8 @@ module _ {U : Type 0} (figures : U → Figures) (law : (u : U) → Lawful (figur
   fits-more fits =
       let full = m .table .full in
       let few = n .few in
-      let count = d .count in
-      (length-take-le (length ws) (map (λ r. value (r .line)) (m .table .records)) (rw (length-map (m .table .records) (λ r. value (r .line))) (omega arith)),
-      (λ i w is. let u = pick us i (let r = d .room in omega (arith, is .0)) in (inside-more i w is u, banded-more i w is u)),
-      fits)
-
+      let count = d .count in (
+        length-take-le (length ws) (map (λ r. value (r .line)) (m .table .records)) (rw (length-map (m .table .records) (λ r. value (r .line))) (omega arith)),
+        (λ i w is. let u = pick us i (let r = d .room in omega (arith, is .0)) in (inside-more i w is u, banded-more i w is u)),
+        fits,
+      )
