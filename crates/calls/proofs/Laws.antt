@@ -103,6 +103,7 @@ module _ {U : Type 0} (figures : U → Figures) (law : (u : U) → Lawful (figur
     law-holds cs vs m f =
         let k = kept-after f in
         record {
+          all = sym (k .describes .count) ∙ k .matches .count;
           history = k .history;
           feeds = k .feeds;
           waiting = k .waiting;

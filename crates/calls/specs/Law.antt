@@ -128,6 +128,8 @@ TickRefusedLast (row i r ∷ cs) = ⊥
 -- After the calls cs rack and net are us and n: there is one list of pulses that fits start, wires and feeds, and
 -- everything that can be read follows from it.
 pub record LawHolds {U : Type 0} (figures : U → Figures) (units : ℕ) (ws : List Wired) (cs : List Call) (us : List U) (n : Net) : Type 0 where
+  -- no unit is left out
+  pub all : length ws ≡ units
   pub history : History
   pub feeds : map (λ t. t .fed) history ≡ lines-after cs .given
   pub waiting : map waits (n .outside) ≡ lines-after cs .waiting
