@@ -1,5 +1,7 @@
 // Makes a mixed list of calls, refused ones among them, on a rack of three kinds of piles, and re-adds each unit's work by
 // itself: modulus times net pulses, plus residue less start residue.
+#![tactic(auto)]
+
 use anyhow::anyhow;
 use layers::house::{HouseUnit, house_integrator, house_servo};
 use layers::turn::Sense;

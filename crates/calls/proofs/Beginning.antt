@@ -1,18 +1,17 @@
 -- A job that is set stands at the beginning of its run.
-use Rattle.std.proofs.Common.{◌≡◌, ℕ, zero, suc, ◌<◌, ◌≤◌, List, [], ◌∷◌, map, length, get_or, take, ℤ, pos, ◌+ℤ◌, ◌-ℤ◌, ◌*ℤ◌, sym, refl, ap, ◌∙◌, subst, arith}
+use Rattle.std.proofs.Common.{◌≡◌, ℕ, zero, suc, ◌<◌, ◌≤◌, List, [], ◌∷◌, map, length, get_or, ℤ, pos, ◌+ℤ◌, ◌-ℤ◌, ◌*ℤ◌, sym, refl, ap, ◌∙◌, arith}
 use lib.IntN.{*ℤ-zero}
 use Rattle.std.proofs.lemmas.List.{get_or-take, length-take-le}
 use Rattle.std.proofs.lemmas.Int.{ints}
-use Rattle.unit.specs.Figures.{Figures, Lawful}
+use Rattle.unit.specs.Figures.{Figures}
 use Rattle.unit.specs.Pulses.{value}
 use Rattle.net.specs.Changes.{Reset}
 use Rattle.net.specs.Limits.{most_units}
-use Rattle.net.specs.Records.{record_at, blank, emptied}
+use Rattle.net.specs.Records.{record_at, blank}
 use Rattle.net.specs.declared.net.Net.{Net}
 use Rattle.net.specs.declared.record.Record.{Record}
-use Rattle.runs.specs.Histories as runs
 use Rattle.runs.specs.Histories.{Wired, IsUnit}
-use Rattle.runs.specs.Standing.{Stands, Describes}
+use Rattle.runs.specs.Standing.{Stands}
 use Rattle.calls.specs.Calls.{Matches}
 use Rattle.calls.specs.Law.{waits, lines_after, zipped, wired_units}
 use Rattle.calls.proofs.Runs.{Kept}

@@ -1,5 +1,5 @@
 -- A run, tick by tick.
-use Rattle.std.proofs.Common.{◌≡◌, ℕ, List, ◌∙◌, arith}
+use Rattle.std.proofs.Common.{ℕ, List, ◌∙◌, arith}
 use Rattle.unit.specs.Figures.{Figures}
 use Rattle.net.specs.declared.net.Net.{Net}
 use Rattle.calls.specs.Calls.{Matches, TickMade}

@@ -1,8 +1,8 @@
 -- The law of runs, by induction over the calls that follow set.
-use Rattle.std.proofs.Common.{◌≡◌, ℕ, ◌<◌, ◌≤◌, List, [], ◌∷◌, map, length, get_or, ℤ, pos, ◌+ℤ◌, ◌-ℤ◌, ◌*ℤ◌, nat_abs, Some, None, Ok, Err, Option, Result, sym, refl, ap, ◌∙◌, subst, arith}
+use Rattle.std.proofs.Common.{◌≡◌, ℕ, ◌<◌, ◌≤◌, List, [], get_or, ℤ, pos, ◌+ℤ◌, ◌-ℤ◌, ◌*ℤ◌, nat_abs, Some, None, Ok, Err, sym, ap, ◌∙◌, subst, arith}
 use Rattle.std.proofs.lemmas.Int.{ints}
 use Rattle.unit.proofs.Answers.{told, untold, told_or_not}
-use Rattle.unit.specs.Figures.{Figures, Constants, Banded, Lawful, told_modulus}
+use Rattle.unit.specs.Figures.{Figures, Constants, Banded, Lawful}
 use Rattle.unit.specs.Pulses.{value}
 use Rattle.unit.specs.Sizes.{largest}
 use Rattle.unit.specs.Solutions.{InBand}
@@ -10,15 +10,13 @@ use Rattle.unit.specs.declared.refusal.Refusal.{Refusal}
 use Rattle.net.specs.Changes.{Reset}
 use Rattle.net.specs.Records.{record_at}
 use Rattle.net.specs.declared.net.Net.{Net}
-use Rattle.net.specs.declared.record.Record.{Record}
 use Rattle.runs.specs.Histories as runs
 use Rattle.runs.specs.Histories.{Wired, IsUnit}
-use Rattle.runs.specs.Standing.{Stands}
 use Rattle.runs.proofs.Delivering.{position_delivered}
 use Rattle.runs.proofs.Extending.{pick}
 use Rattle.runs.proofs.Uniqueness.{only_one_fits}
 use Rattle.calls.specs.Calls.{Matches, Refused, TickFault, AllTold}
-use Rattle.calls.specs.Law.{Call, feed, tick, run, read, row, Follow, at_set, then_feed, then_tick, then_run, then_read, then_row, Lines, lines_after, oldest, wired_units, Closes, NextFits, Tells, TickRefusedLast, LawHolds}
+use Rattle.calls.specs.Law.{Call, Follow, at_set, then_feed, then_tick, then_run, then_read, then_row, Lines, lines_after, wired_units, Closes, Tells, TickRefusedLast, LawHolds}
 use Rattle.calls.specs.Readings.{Reads}
 use Rattle.calls.specs.declared.reading.Reading.{Reading}
 use Rattle.calls.proofs.Beginning.{wired_is, as_many, begins}

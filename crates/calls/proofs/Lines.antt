@@ -1,5 +1,5 @@
 -- The outside lines of a net, and those that the calls' answers tell of.
-use Rattle.std.proofs.Common.{◌≡◌, ℕ, zero, suc, ◌+◌, true, false, List, [], ◌∷◌, ◌++◌, map, length, get_or, set, replicate, ℤ, pos, is_some, Some, None, Option, sym, refl, ap, ◌∙◌, add-one, arith}
+use Rattle.std.proofs.Common.{◌≡◌, ℕ, zero, suc, ◌+◌, false, List, [], ◌∷◌, ◌++◌, map, length, get_or, set, replicate, is_some, Some, None, Option, refl, add-one, arith}
 use Rattle.unit.specs.Pulses.{value}
 use Rattle.unit.specs.declared.pulse.Pulse.{Pulse}
 use Rattle.net.specs.Signals.{or_zero}

@@ -1,15 +1,12 @@
 -- What a run keeps true from call to call: its history, its lines, its figures.
-use Rattle.std.proofs.Common.{◌≡◌, ℕ, ◌+◌, ◌<◌, ◌≤◌, true, false, T, List, [], ◌∷◌, ◌++◌, map, length, get_or, set, ℤ, pos, ◌+ℤ◌, is_ok, Ok, Err, Decides, Option, Result, sym, refl, ap, ◌∙◌, subst, arith}
+use Rattle.std.proofs.Common.{◌≡◌, ℕ, ◌<◌, T, List, [], ◌∷◌, ◌++◌, map, length, get_or, set, ℤ, ◌+ℤ◌, is_ok, Ok, Err, Decides, Result, sym, refl, ap, ◌∙◌, subst, arith}
 use Rattle.unit.proofs.Truth.{both}
 use Rattle.unit.specs.Figures.{Figures, Constants, Inside, Lawful}
 use Rattle.unit.specs.Pulses.{value}
-use Rattle.unit.specs.declared.pulse.Pulse.{Pulse}
 use Rattle.unit.specs.declared.refusal.Refusal.{Refusal}
 use Rattle.net.specs.Bounds.{tap_there, taps_there}
-use Rattle.net.specs.Limits.{most_ticks}
 use Rattle.net.specs.Records.{record_at, blank}
 use Rattle.net.specs.declared.net.Net.{Net}
-use Rattle.net.specs.declared.record.Record.{Record}
 use Rattle.net.specs.declared.table.Table.{Table}
 use Rattle.ticks.specs.Racks.{Accepts}
 use Rattle.ticks.specs.Ticks as ticks

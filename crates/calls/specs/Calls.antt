@@ -1,6 +1,6 @@
 -- What each call of a job answers and leaves. A refusal is given exactly where its line below says, the earlier checks
 -- having passed, and then everything that was lent is what it was.
-use Rattle.std.specs.Prelude.{◌≡◌, ℕ, ◌+◌, ◌<◌, ◌≤◌, true, false, ◌⊎◌, List, length, set, ℤ, is_some, Some, None, Ok, Err, Option, Result, ◌≢◌, slice_index_or, slice_set}
+use Rattle.std.specs.Prelude.{◌≡◌, ℕ, ◌+◌, ◌<◌, ◌≤◌, true, false, ◌⊎◌, List, length, ℤ, is_some, Some, None, Ok, Err, Option, Result, ◌≢◌, slice_index_or, slice_set}
 use Rattle.unit.specs.Figures.{Figures, told_modulus}
 use Rattle.unit.specs.Pulses.{value}
 use Rattle.ticks.specs.Racks.{at_place}
@@ -16,7 +16,7 @@ use Rattle.wires.specs.declared.tap.Input.{Input}
 use Rattle.wires.specs.declared.tap.Input.TheVariants.{X, Y}
 use Rattle.wires.specs.declared.tap.Sign.{Sign}
 use Rattle.wires.specs.declared.tap.Tap.{Tap}
-use Rattle.net.specs.Changes.{UnitAdded, Stored, Waits, Reset}
+use Rattle.net.specs.Changes.{UnitAdded, Stored, Waits}
 use Rattle.net.specs.Limits.{most_ticks, most_units}
 use Rattle.net.specs.Records.{record_at, cleared, with_x, with_y, FirstFree}
 use Rattle.net.specs.declared.net.Net.{Net}

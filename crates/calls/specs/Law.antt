@@ -1,5 +1,5 @@
 -- The law of runs: what holds after whatever calls follow set, each given the job's own rack and net.
-use Rattle.std.specs.Prelude.{◌≡◌, ℕ, zero, suc, ◌<◌, true, List, [], ◌∷◌, ◌++◌, map, length, take, set, ℤ, pos, ◌+ℤ◌, ◌-ℤ◌, ◌*ℤ◌, is_ok, Some, None, Ok, Err, Decides, Option, Result, slice_index_or, slice_set, unsigned_abs}
+use Rattle.std.specs.Prelude.{◌≡◌, ℕ, zero, suc, ◌<◌, List, [], ◌∷◌, ◌++◌, map, length, take, ℤ, pos, ◌+ℤ◌, ◌-ℤ◌, ◌*ℤ◌, is_ok, Some, None, Ok, Err, Decides, Option, Result, slice_index_or, slice_set, unsigned_abs}
 use Rattle.unit.specs.Figures.{Figures, Inside}
 use Rattle.unit.specs.Pulses.{value}
 use Rattle.unit.specs.declared.pulse.Pulse.{Pulse}
@@ -10,7 +10,7 @@ use Rattle.net.specs.declared.net.Net.{Net}
 use Rattle.net.specs.declared.record.Record.{Record}
 use Rattle.runs.specs.Histories as runs
 use Rattle.runs.specs.Histories.{Wired, Tick, History, IsUnit, Fits, lines, tally, position, all_delivered}
-use Rattle.calls.specs.Calls.{Matches, FeedAnswers, TickAnswers, Chain, Ended}
+use Rattle.calls.specs.Calls.{FeedAnswers, TickAnswers, Chain, Ended}
 use Rattle.calls.specs.Readings.{Reads, ReadAnswers, RowAnswers}
 use Rattle.calls.specs.declared.reading.Reading.{Reading}
 

@@ -1,5 +1,7 @@
 // The circle: two integrators of length 24 with the clock on x, each tapping the other with opposite signs. Runs the most
 // ticks that a patch text can ask for, and prints the last row of both.
+#![tactic(auto)]
+
 use anyhow::anyhow;
 use machine::job::open::open;
 use machine::job::{OpenJob, SetJob};

@@ -1,5 +1,5 @@
 -- What the letter of a line tells, and the faults of a line that is a frame.
-use Rattle.std.proofs.Common.{◌≡◌, ℕ, ◌<◌, ◌≤◌, ◌⊎◌, List, [], ◌∷◌, sym, refl, ap, ◌∙◌, subst, inl, inr, ⊎_elim, arith}
+use Rattle.std.proofs.Common.{◌≡◌, ℕ, ◌<◌, ◌⊎◌, List, [], ◌∷◌, sym, refl, ap, ◌∙◌, subst, inl, inr, ⊎_elim, arith}
 use Rattle.frames.specs.Faults.{LineFault, no_letter, breaks, number, figure, source}
 use Rattle.frames.specs.Frames.{Frame, count, integrator, servo, tap, last, letter, line}
 use Rattle.frames.specs.Rules.{Expected, Ordered, InRange, Sourced, Keeps, UnitsStand, counted, how_many, is_unit}
@@ -7,7 +7,6 @@ use Rattle.lines.specs.Kinds.{letter_of}
 use Rattle.lines.specs.declared.frame.Frame.{Frame as Kind}
 use Rattle.lines.specs.declared.frame.Frame.TheVariants as kind
 use Rattle.lines.specs.declared.reader.Part.{Part}
-use Rattle.sheet.specs.Patches.{unit_frame}
 use Rattle.sheet.specs.declared.parts.UnitFigures.{UnitFigures}
 use Rattle.unit.specs.declared.refusal.Refusal.TheVariants.{FrameOrder, UnitOrder, FigureOutOfRange, NoSuchSource}
 use Rattle.wires.specs.declared.tap.Input.{Input}

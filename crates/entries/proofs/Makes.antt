@@ -1,5 +1,5 @@
 -- The position of a make is small.
-use Rattle.std.proofs.Common.{ℕ, ◌^◌, ◌≤◌, ℤ, nat_abs, arith, pow_mono}
+use Rattle.std.proofs.Common.{ℕ, ◌≤◌, ℤ, nat_abs, arith, pow_mono}
 use Rattle.std.proofs.lemmas.Int.{ints}
 use Rattle.makes.specs.Integrators.{Allowed}
 use Rattle.sheet.specs.Patches.{largest_position}

@@ -1,8 +1,8 @@
 -- One tap more.
-use Rattle.std.proofs.Common.{◌≡◌, ℕ, suc, ◌+◌, ◌*◌, ◌<◌, ◌≤◌, Bool, true, false, cond, eqb, List, ◌∷◌, length, filter, sym, refl, ap, ◌∙◌, arith}
+use Rattle.std.proofs.Common.{◌≡◌, ℕ, suc, ◌+◌, ◌<◌, ◌≤◌, Bool, true, false, cond, List, ◌∷◌, length, filter, refl, ap, ◌∙◌, arith}
 use Rattle.std.proofs.lemmas.Bool.{eq-eqb, ne_eqb}
 use Rattle.frames.specs.Frames.{Frame, tap}
-use Rattle.frames.specs.Rules.{Ordered, counted, how_many, is_tap_of, is_y_of}
+use Rattle.frames.specs.Rules.{how_many, is_tap_of, is_y_of}
 use Rattle.sheet.specs.Patches.{unit_frames}
 use Rattle.sheet.specs.declared.parts.UnitFigures.{UnitFigures}
 use Rattle.sheet.proofs.Counting.{units_no_tap, units_no_y, units_no_latest}

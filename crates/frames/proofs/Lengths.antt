@@ -1,8 +1,8 @@
 -- How long a text is, and how it ends.
-use Rattle.std.proofs.Common.{◌≡◌, ℕ, suc, ◌+◌, ◌-◌, ◌<◌, ◌≤◌, List, [], ◌∷◌, ◌++◌, length, get_or, sum, sym, refl, ap, ◌∙◌, arith, length-append}
+use Rattle.std.proofs.Common.{◌≡◌, ℕ, ◌+◌, ◌-◌, ◌≤◌, List, [], ◌∷◌, ◌++◌, length, get_or, sum, sym, ap, ◌∙◌, arith, length-append}
 use Rattle.std.proofs.lemmas.List.{get_or_at, append_assoc}
 use Rattle.frames.specs.Faults.{Extent, longest}
-use Rattle.frames.specs.Frames.{Frame, letter, widths, line, text}
+use Rattle.frames.specs.Frames.{Frame, widths, line, text}
 use Rattle.frames.proofs.Lines.{length-line}
 
 -- a line has its letter, its digits and its line feed

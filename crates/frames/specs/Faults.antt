@@ -1,6 +1,6 @@
 -- The first fault of a text: a line is checked by its letter, its digits, its unit number and then its figures, below the frames
 -- that stand above it.
-use Rattle.std.specs.Prelude.{◌≡◌, ℕ, ◌+◌, ◌-◌, ◌<◌, ◌≤◌, List, [], ◌∷◌, ◌++◌, length, sum, ◌≢◌, slice_index, slice_index_or}
+use Rattle.std.specs.Prelude.{◌≡◌, ℕ, ◌+◌, ◌-◌, ◌<◌, ◌≤◌, List, ◌∷◌, ◌++◌, length, sum, ◌≢◌, slice_index, slice_index_or}
 use Rattle.hexa.specs.Hex.{BadDigits}
 use Rattle.unit.specs.declared.refusal.Refusal.{Refusal}
 use Rattle.unit.specs.declared.refusal.Refusal.TheVariants.{TextExtent, FrameOrder, FrameDigits, UnitOrder, FigureOutOfRange, NoSuchSource}

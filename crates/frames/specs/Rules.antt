@@ -2,14 +2,13 @@
 use Rattle.std.specs.Prelude.{◌≡◌, ℕ, ◌<◌, ◌≤◌, Bool, true, false, List, [], ◌∷◌, length, pos, filter, ◌==◌}
 use Rattle.std.specs.Int.{w32}
 use Rattle.std.proofs.Common.{to_z}
-use Rattle.layers.specs.Turns.{figure_of as sense-figure}
+use Rattle.layers.specs.Turns.{figure_of as sense_figure}
 use Rattle.layers.specs.declared.turn.Sense.{Sense}
 use Rattle.makes.specs.Integrators.{Allowed as AllowedIntegrator}
 use Rattle.makes.specs.Servos.{Allowed as AllowedServo}
 use Rattle.wires.specs.Sources.{code_of, there}
-use Rattle.wires.specs.Taps.{figure_of as sign-figure}
+use Rattle.wires.specs.Taps.{figure_of as sign_figure}
 use Rattle.wires.specs.declared.source.Source.{Source}
-use Rattle.wires.specs.declared.tap.Input.{Input}
 use Rattle.wires.specs.declared.tap.Input.TheVariants.{X, Y}
 use Rattle.wires.specs.declared.tap.Sign.{Sign}
 use Rattle.frames.specs.Frames.{Frame, count, integrator, servo, tap, last, Fits}
@@ -95,9 +94,9 @@ Ordered above (last t q) = Unit {0}
 -- The other figures: 1 to 64 units; what a make or a layer can be made of; a sign; a step of at least 1.
 abbrev pub InRange : Frame → Type 0
 InRange (count c) = (1 ≤ c) × (c ≤ 64)
-InRange (integrator u n p r k s) = AllowedIntegrator n (to_z w32 p) (pos r) × (1 ≤ k) × ((sense : Sense) × (sense-figure sense ≡ s))
-InRange (servo u l p k s) = AllowedServo l (to_z w32 p) × (1 ≤ k) × ((sense : Sense) × (sense-figure sense ≡ s))
-InRange (tap i u g t) = (sign : Sign) × (sign-figure sign ≡ g)
+InRange (integrator u n p r k s) = AllowedIntegrator n (to_z w32 p) (pos r) × (1 ≤ k) × ((sense : Sense) × (sense_figure sense ≡ s))
+InRange (servo u l p k s) = AllowedServo l (to_z w32 p) × (1 ≤ k) × ((sense : Sense) × (sense_figure sense ≡ s))
+InRange (tap i u g t) = (sign : Sign) × (sign_figure sign ≡ g)
 InRange (last t q) = 1 ≤ q
 
 -- The source of a tap is there: a unit below the count, one of the four outside lines, or the clock.

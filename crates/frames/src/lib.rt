@@ -1,2 +1,3 @@
 // What a patch text is: its frames, the rules that they keep below one another, and its first fault. No code; the theorems of
 // proofs/ are cited by the crates above.
+#![tactic(auto)]

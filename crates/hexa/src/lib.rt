@@ -1,5 +1,7 @@
 // Capital hexadecimal: figures of given widths out of digits, and into a buffer. For the crates that know the widths of a frame:
 // `figures` asks that none is above 8, and `put_figures` asks for room.
+#![tactic(auto)]
+
 ghost use Rattle.std.specs.Prelude.{◌≡◌, ◌+◌, ◌^◌, ◌<◌, ◌≤◌, ◌++◌, length, MatchBool, sum, MatchOption};
 ghost use Rattle.std.specs.List.{AllByRecursion as All};
 ghost use Rattle.buffer.specs.Puts.{Put};

@@ -1,4 +1,6 @@
 // Runs the growth patch: an integrator of length 2 at position 1, with the clock on x and its own pulse as its only y tap.
+#![tactic(auto)]
+
 use anyhow::anyhow;
 use machine::job::open::open;
 use machine::job::{OpenJob, SetJob};

@@ -1,5 +1,5 @@
 -- The divider by k that holds back the count c: what the unit in it means.
-use Rattle.std.specs.Prelude.{ℕ, ◌*◌, ℤ, pos, ◌+ℤ◌}
+use Rattle.std.specs.Prelude.{ℕ, ◌*◌, pos, ◌+ℤ◌}
 use Rattle.unit.specs.Figures.{Constants, Figures}
 use Rattle.unit.specs.Pulses.{value}
 use Rattle.unit.specs.Solutions.{OnlySolution}

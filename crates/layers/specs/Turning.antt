@@ -1,8 +1,8 @@
 -- An upright or inverted unit is lawful, and steps as the unit below does.
-use Rattle.std.specs.Prelude.{◌≡◌, ℕ, ◌≤◌, ℤ, pos, ◌+ℤ◌, ◌*ℤ◌, neg_ℤ, unsigned_abs, refl}
-use Rattle.std.proofs.Common.{sym, ap, ◌∙◌, arith}
+use Rattle.std.specs.Prelude.{ℕ, ◌≤◌, ℤ, pos, ◌+ℤ◌, ◌*ℤ◌, neg_ℤ, unsigned_abs}
+use Rattle.std.proofs.Common.{ap, arith}
 use Rattle.std.proofs.lemmas.Int.{ints}
-use Rattle.unit.specs.Figures.{Constants, Figures, Inside, Lawful, Moved}
+use Rattle.unit.specs.Figures.{Constants, Figures, Lawful, Moved}
 use Rattle.unit.specs.Pulses.{value}
 use Rattle.unit.specs.Solutions.{InBand, Solves}
 use Rattle.unit.specs.declared.pulse.Pulse.{Pulse}

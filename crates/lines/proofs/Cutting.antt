@@ -1,5 +1,5 @@
 -- A line cut from a text.
-use Rattle.std.proofs.Common.{◌≡◌, ℕ, ◌+◌, ◌-◌, ◌<◌, ◌≤◌, List, [], ◌∷◌, ◌++◌, length, get_or, take, drop, sym, refl, ap, ◌∙◌, subst, inl, inr, arith, length-drop, take-append-drop, length-take}
+use Rattle.std.proofs.Common.{◌≡◌, ℕ, ◌+◌, ◌-◌, ◌<◌, ◌≤◌, List, ◌∷◌, ◌++◌, length, get_or, take, drop, sym, ap, ◌∙◌, inl, inr, arith, length-drop, take-append-drop, length-take}
 use Rattle.std.proofs.lemmas.List.{get_or-take, get_or-drop, drop_more, drop-drop, take_all}
 use Rattle.frames.specs.Faults.{NoFeed}
 use Rattle.lines.specs.Lines.{LineAt}

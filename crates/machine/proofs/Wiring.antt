@@ -1,5 +1,5 @@
 -- One tap more: the record keeps the bounds of the net, and its taps read what is there.
-use Rattle.std.proofs.Common.{◌≡◌, ℕ, zero, suc, ◌<◌, T, List, [], ◌∷◌, set, Some, None, Option, sym, ap, subst, arith}
+use Rattle.std.proofs.Common.{ℕ, zero, suc, ◌<◌, T, List, [], ◌∷◌, set, Some, Option, sym, subst, arith}
 use Rattle.unit.proofs.Truth.{both, joined}
 use Rattle.wires.specs.Sources.{there}
 use Rattle.wires.specs.declared.tap.Input.{Input}

@@ -1,5 +1,5 @@
 -- An accepted step of a make, from the parts that it computes.
-use Rattle.std.proofs.Common.{◌≡◌, ℤ, ◌+ℤ◌, ◌*ℤ◌, sym, refl, ap, ◌∙◌, subst}
+use Rattle.std.proofs.Common.{◌≡◌, ℤ, ◌+ℤ◌, ◌*ℤ◌, refl, subst}
 use Rattle.unit.specs.Pulses.{value}
 use Rattle.unit.specs.Solutions.{OnlySolution}
 use Rattle.unit.specs.Figures.{Constants, Figures, Inside, Moved}

@@ -1,5 +1,5 @@
 -- What holds of every record of a net, and goes on to hold after a change.
-use Rattle.std.proofs.Common.{◌≡◌, ℕ, ◌+◌, ◌<◌, ◌≤◌, T, ltb, List, [], ◌∷◌, length, get_or, set, replicate, Some, None, Option, sym, subst, ⊎_elim, arith, ltb→lt, lt→ltb}
+use Rattle.std.proofs.Common.{◌≡◌, ℕ, ◌+◌, ◌<◌, T, ltb, List, [], ◌∷◌, length, set, replicate, Some, None, Option, sym, subst, ⊎_elim, arith, ltb→lt, lt→ltb}
 use Rattle.std.proofs.lemmas.List.Elements.{AllWithin-set}
 use Rattle.std.proofs.lemmas.List.{set_past, get_or_default, get_or-replicate}
 use Rattle.std.proofs.lemmas.Bool.{cases_lt}

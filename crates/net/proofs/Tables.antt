@@ -1,5 +1,5 @@
 -- One record more emptied.
-use Rattle.std.proofs.Common.{◌≡◌, ℕ, ◌+◌, ◌<◌, ◌≢◌, List, length, set, sym, refl, ap, ◌∙◌, arith, length-set, below_more}
+use Rattle.std.proofs.Common.{ℕ, ◌+◌, ◌<◌, ◌≢◌, List, length, set, refl, ap, ◌∙◌, arith, length-set, below_more}
 use Rattle.std.proofs.lemmas.List.{get_or-set_same, get_or-set_other}
 use Rattle.net.specs.Records.{record_at, emptied, blank}
 use Rattle.net.specs.Tables.{Emptied}

@@ -1,13 +1,14 @@
-// The check of a patch text for a host program in C.
+// The check of a patch text as one number; the crate `patch_c` exports it to C.
+#![tactic(auto)]
+
 ghost use Rattle.std.specs.Prelude.{◌≡◌, ◌+◌, ◌*◌};
 ghost use Rattle.patch.specs.Verdicts.{Verdict, packed};
 
 use reader::read::parsed;
 use unit::refusal::TextFault;
 
-// 0 for a text that is accepted, else the number of its refusal times 65,536 plus its line. C passes a pointer and a length.
-#[unsafe(no_mangle)]
-pub extern "C" fn patch_check(text: &[u8]) -> u32
+// 0 for a text that is accepted, else the number of its refusal times 65,536 plus its line.
+pub fn patch_check(text: &[u8]) -> u32
     ensures { Verdict text.now result }
 {
     match parsed(text) {

@@ -30,12 +30,12 @@ fn frames_by_line(rt: HostRuntime) -> Result<(), Fail> {
         return Err(Fail::new("line 2 is an integrator"));
     };
     assert_eq!(rt; digits.at, 5);
-    assert_eq!(rt; digits.bytes, b"000200000001000000000100");
+    assert_eq!(rt; digits.bytes, b"000200000001000000000100".as_slice());
     let Ok(Frame::Servo(digits)) = frame_at(PAIR, 3) else {
         return Err(Fail::new("line 3 is a servo"));
     };
     assert_eq!(rt; digits.at, 31);
-    assert_eq!(rt; digits.bytes, b"0100000004FFFFFFFE0301");
+    assert_eq!(rt; digits.bytes, b"0100000004FFFFFFFE0301".as_slice());
     no_frame(&rt, PAIR, 0, Refusal::NotThere)?;
     no_frame(&rt, PAIR, 10, Refusal::NotThere)
 }
@@ -47,7 +47,7 @@ fn frames_of_any_text(rt: HostRuntime) -> Result<(), Fail> {
         return Err(Fail::new("line 2 is a y tap"));
     };
     assert_eq!(rt; digits.at, 15);
-    assert_eq!(rt; digits.bytes, b"3FFFFF");
+    assert_eq!(rt; digits.bytes, b"3FFFFF".as_slice());
     no_frame(&rt, b"", 1, Refusal::NotThere)?;
     no_frame(&rt, b"P01\n", 2, Refusal::NotThere)?;
     no_frame(&rt, b"P01\n\nP01\n", 2, Refusal::FrameOrder)?;

@@ -1,18 +1,18 @@
 -- The phases of a text put together.
-use Rattle.std.proofs.Common.{◌≡◌, ℕ, ◌-◌, ◌<◌, ◌≤◌, true, List, [], ◌∷◌, length, get_or, take, sym, refl, ap, ◌∙◌, subst, arith}
+use Rattle.std.proofs.Common.{◌≡◌, ℕ, ◌-◌, ◌≤◌, true, List, ◌∷◌, length, get_or, take, ap, ◌∙◌, subst, arith}
 use Rattle.std.proofs.lemmas.List.{length-take-le}
 use Rattle.frames.specs.Faults.{LineFault, no_letter}
 use Rattle.frames.specs.Frames.{Frame, last}
 use Rattle.frames.specs.Rules.{Lawful}
 use Rattle.frames.proofs.Counts.{nothing_expected}
 use Rattle.lines.specs.declared.reader.LineReader.{LineReader}
-use Rattle.sheet.specs.Patches.{unit_frames, tap_frames, frames, blank_unit, blank_plug, LawfulPatch}
+use Rattle.sheet.specs.Patches.{unit_frames, tap_frames, blank_unit, blank_plug, LawfulPatch}
 use Rattle.sheet.proofs.Slices.{units_take}
 use Rattle.sheet.specs.declared.parts.Plug.{Plug}
 use Rattle.sheet.specs.declared.parts.UnitFigures.{UnitFigures}
 use Rattle.unit.specs.declared.refusal.Refusal.TheVariants.{FrameOrder}
 use Rattle.wires.specs.Sources.{there}
-use Rattle.reader.specs.Phases.{Reading, Units, Ended}
+use Rattle.reader.specs.Phases.{Units, Ended}
 use Rattle.reader.specs.declared.phases.Ending.{Ending}
 
 -- below the last frame nothing may stand

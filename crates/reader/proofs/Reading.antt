@@ -1,5 +1,5 @@
 -- One line more, a line that is wrong, and a line that is missing.
-use Rattle.std.proofs.Common.{◌≡◌, ℕ, suc, ◌+◌, ◌-◌, ◌<◌, ◌≤◌, List, [], ◌∷◌, ◌++◌, length, get_or, drop, sym, refl, ap, ◌∙◌, subst, ⊎_elim, append_assoc, append-nil, add-one, arith, length-drop}
+use Rattle.std.proofs.Common.{◌≡◌, ℕ, ◌+◌, ◌-◌, ◌≤◌, List, [], ◌∷◌, ◌++◌, length, get_or, drop, sym, ap, ◌∙◌, subst, ⊎_elim, append-nil, add-one, arith, length-drop}
 use Rattle.std.proofs.lemmas.List.{get_or-drop, drop_all}
 use Rattle.frames.specs.Faults.{Extent, LineFault, Fault, wrong, missing}
 use Rattle.frames.specs.Frames.{Frame, line, text}

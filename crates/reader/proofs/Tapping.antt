@@ -1,5 +1,5 @@
 -- One tap more.
-use Rattle.std.proofs.Common.{◌≡◌, ℕ, zero, suc, ◌+◌, ◌*◌, ◌<◌, ◌≤◌, true, ◌≢◌, List, [], ◌∷◌, length, get_or, set, sym, refl, ap, ◌∙◌, subst, ⊎_elim, add-one, arith, length-set}
+use Rattle.std.proofs.Common.{◌≡◌, ℕ, zero, suc, ◌+◌, ◌<◌, ◌≤◌, true, ◌≢◌, List, length, get_or, set, sym, refl, ◌∙◌, subst, ⊎_elim, arith, length-set}
 use Rattle.std.proofs.lemmas.List.{get_or-set_same, get_or-set_other}
 use Rattle.std.proofs.lemmas.Bool.{cases_lt}
 use Rattle.entries.specs.Entries.{TailWanted, TapRead, LastRead}
@@ -7,8 +7,8 @@ use Rattle.entries.specs.Turns.{Began, Turn, Taps}
 use Rattle.entries.specs.declared.latest.Latest.{Latest}
 use Rattle.entries.proofs.Letters.{below_count}
 use Rattle.entries.proofs.Turning.{no_taps_yet}
-use Rattle.frames.specs.Frames.{Frame, tap, last}
-use Rattle.frames.specs.Rules.{UnitsStand, counted, latest, how_many, is_last, is_unit, is_tap_of, is_y_of}
+use Rattle.frames.specs.Frames.{Frame, last}
+use Rattle.frames.specs.Rules.{UnitsStand, counted, how_many, is_last}
 use Rattle.frames.proofs.Counts.{counted_few, counted_some}
 use Rattle.lines.specs.Lines.{Advanced}
 use Rattle.lines.specs.declared.reader.LineReader.{LineReader}

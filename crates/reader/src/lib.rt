@@ -1,3 +1,5 @@
 // A patch text read into a sheet.
+#![tactic(auto)]
+
 pub mod phases;
 pub mod read;

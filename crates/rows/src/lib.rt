@@ -1,4 +1,6 @@
 // Table rows as bytes: decimal numbers with one space between them, and a line feed at the end.
+#![tactic(auto)]
+
 ghost use Rattle.std.specs.Prelude.{◌≡◌, ◌+◌, ◌^◌, ◌≤◌, length, decimal, MatchOption};
 ghost use Rattle.std.specs.Fmt.{signed_decimal};
 ghost use Rattle.buffer.specs.Puts.{Put};

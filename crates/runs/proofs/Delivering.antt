@@ -1,8 +1,8 @@
 -- A position is the start position and what each tap has delivered.
-use Rattle.std.proofs.Common.{◌≡◌, List, [], ◌∷◌, ℤ, pos, ◌+ℤ◌, Option, arith}
+use Rattle.std.proofs.Common.{◌≡◌, List, [], ◌∷◌, pos, ◌+ℤ◌, Option, arith}
 use Rattle.std.proofs.lemmas.Int.{ints}
 use Rattle.wires.specs.declared.tap.Tap.{Tap}
-use Rattle.runs.specs.Histories.{Wired, Tick, History, lines, tally, delivered, all_delivered, position}
+use Rattle.runs.specs.Histories.{Wired, Tick, History, lines, tally, all_delivered, position}
 
 none_delivered : (taps : List (Option Tap)) → all_delivered taps [] ≡ pos 0
 none_delivered [] = omega (arith, ints)

@@ -1,11 +1,11 @@
 -- An accepted tick makes a history one tick longer.
-use Rattle.std.proofs.Common.{◌≡◌, ℕ, zero, suc, ◌+◌, ◌<◌, ◌≤◌, T, ltb, List, [], ◌∷◌, map, length, get_or, take, ℤ, pos, ◌+ℤ◌, ◌-ℤ◌, ◌*ℤ◌, Some, None, Option, sym, refl, ap, ◌∙◌, subst, arith, ltb→lt}
+use Rattle.std.proofs.Common.{◌≡◌, ℕ, zero, suc, ◌<◌, T, ltb, List, [], ◌∷◌, map, length, get_or, ℤ, pos, ◌+ℤ◌, ◌-ℤ◌, ◌*ℤ◌, Some, None, Option, sym, refl, ap, ◌∙◌, subst, arith, ltb→lt}
 use Rattle.std.proofs.lemmas.List.{get_or-map, get_or-take, length-map, length-take-le}
 use Rattle.std.proofs.lemmas.Int.{ints}
 use Rattle.unit.proofs.Products.{times_plus}
 use Rattle.unit.proofs.Signs.{opposite_value}
 use Rattle.unit.proofs.Truth.{both}
-use Rattle.unit.specs.Figures.{Figures, Constants, Inside, Banded, Lawful, Moved}
+use Rattle.unit.specs.Figures.{Figures, Constants, Inside, Banded, Lawful}
 use Rattle.unit.specs.Pulses.{value}
 use Rattle.unit.specs.declared.pulse.Pulse.{Pulse}
 use Rattle.wires.specs.Sources.{there}
@@ -15,11 +15,10 @@ use Rattle.wires.specs.declared.source.Source.TheVariants.{Place, Outside, Clock
 use Rattle.wires.specs.declared.tap.Sign.{Sign}
 use Rattle.wires.specs.declared.tap.Sign.TheVariants.{Plus, Minus}
 use Rattle.wires.specs.declared.tap.Tap.{Tap}
-use Rattle.net.specs.Bounds.{Wired as RecordWired, tap_there, taps_there}
+use Rattle.net.specs.Bounds.{tap_there, taps_there}
 use Rattle.net.specs.Records.{record_at, blank}
 use Rattle.net.specs.Signals.{or_zero, given, delivered, sum}
 use Rattle.net.specs.declared.net.Net.{Net}
-use Rattle.net.specs.declared.record.Record.{Record}
 use Rattle.ticks.specs.Ticks as ticks
 use Rattle.runs.specs.Histories as runs
 use Rattle.runs.specs.Histories.{Wired, Tick, History, IsUnit, Fits, lines, gives, times, delivers}

@@ -1,9 +1,9 @@
 -- Of the lists of ticks with the same feeds only one fits.
-use Rattle.std.proofs.Common.{◌≡◌, ℕ, zero, suc, ◌<◌, List, [], ◌∷◌, map, length, get_or, ℤ, pos, ◌+ℤ◌, ◌-ℤ◌, ◌*ℤ◌, sym, refl, ap, ◌∙◌, arith, ext_get_or}
+use Rattle.std.proofs.Common.{◌≡◌, ℕ, zero, suc, ◌<◌, List, [], ◌∷◌, map, length, get_or, ℤ, pos, ◌+ℤ◌, ◌-ℤ◌, ◌*ℤ◌, sym, refl, ◌∙◌, arith, ext_get_or}
 use Rattle.std.proofs.lemmas.Int.{ints}
 use Rattle.unit.proofs.Division.{only_solution}
 use Rattle.unit.specs.Figures.{Banded}
-use Rattle.unit.specs.Solutions.{Solves, InBand}
+use Rattle.unit.specs.Solutions.{InBand}
 use Rattle.runs.specs.Histories.{Wired, Tick, History, IsUnit, Fits, OnlyOneFits, net, work, residue}
 
 abbrev tick : List ℤ → List ℤ → Tick

@@ -1,10 +1,8 @@
 -- How many frames of a kind the frames of a patch have.
-use Rattle.std.proofs.Common.{◌≡◌, ℕ, zero, suc, ◌+◌, ◌≤◌, Bool, true, false, cond, List, [], ◌∷◌, length, get_or, filter, sym, refl, ap, ◌∙◌, subst, arith}
-use Rattle.frames.specs.Frames.{Frame, count, integrator, servo, tap, last}
+use Rattle.std.proofs.Common.{◌≡◌, ℕ, zero, suc, ◌+◌, Bool, true, false, cond, List, ◌∷◌, length, get_or, filter, refl, ap, ◌∙◌, arith}
+use Rattle.frames.specs.Frames.{Frame}
 use Rattle.frames.specs.Rules.{counted, latest, how_many, is_unit, is_last, is_tap_of, is_y_of}
-use Rattle.wires.specs.declared.tap.Input.{Input}
-use Rattle.wires.specs.declared.tap.Input.TheVariants.{X, Y}
-use Rattle.sheet.specs.Patches.{unit_frame, make_frame, tap_frame, unit_frames, tap_frames, blank_unit, blank_plug}
+use Rattle.sheet.specs.Patches.{unit_frame, make_frame, unit_frames, tap_frames, blank_unit}
 use Rattle.sheet.specs.declared.parts.MakeFigures.{MakeFigures}
 use Rattle.sheet.specs.declared.parts.MakeFigures.TheVariants.{Integrator, Servo}
 use Rattle.sheet.specs.declared.parts.UnitFigures.{UnitFigures}

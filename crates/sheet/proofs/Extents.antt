@@ -1,8 +1,8 @@
 -- How long the text of a sheet is; it is within the bounds of a text, and complete.
-use Rattle.std.proofs.Common.{◌≡◌, ℕ, zero, suc, ◌+◌, ◌*◌, ◌≤◌, List, [], ◌∷◌, length, get_or, sum, sym, refl, ap, ◌∙◌, subst, arith}
+use Rattle.std.proofs.Common.{◌≡◌, ℕ, zero, suc, ◌+◌, ◌*◌, ◌≤◌, List, [], length, get_or, sum, ap, ◌∙◌, arith}
 use Rattle.frames.specs.Faults.{Extent}
 use Rattle.frames.specs.Frames.{Frame, count, last, widths, text}
-use Rattle.frames.specs.Rules.{Complete, how_many, is_last}
+use Rattle.frames.specs.Rules.{Complete}
 use Rattle.frames.proofs.Lengths.{length-text_more, text_extent}
 use Rattle.sheet.specs.Patches.{make_frame, unit_frame, tap_frame, unit_frames, tap_frames, blank_unit, blank_plug}
 use Rattle.sheet.specs.Texts.{frames_of, written}

@@ -1,17 +1,17 @@
 -- Sheets that are written in the same frames are equal.
-use Rattle.std.proofs.Common.{◌≡◌, ℕ, zero, suc, ◌+◌, ◌^◌, ◌<◌, ◌≤◌, Bool, true, false, List, [], ◌∷◌, length, get_or, ℤ, nat_abs, sym, refl, ap, ◌∙◌, subst, inl, inr, ⊎_elim, arith, w32, SFits, to_z, of_z}
+use Rattle.std.proofs.Common.{◌≡◌, ℕ, zero, suc, ◌<◌, ◌≤◌, true, List, length, get_or, ℤ, nat_abs, sym, refl, ap, ◌∙◌, subst, ⊎_elim, arith, w32, SFits, to_z, of_z}
 use base.Stored.{Coded-set}
 use denote.Struct.Record.{values_one}
 use Rattle.std.proofs.lemmas.List.{ext_get_or}
 use Rattle.std.proofs.lemmas.Int.{ints, to_z-of_z}
 use Rattle.std.proofs.lemmas.Bool.{and_parts, cases_lt, ltb-true}
-use Rattle.frames.specs.Frames.{Frame, tap, last}
+use Rattle.frames.specs.Frames.{Frame}
 use Rattle.frames.specs.Rules.{counted}
-use Rattle.layers.specs.Turns.{figure_of as sense-figure}
+use Rattle.layers.specs.Turns.{figure_of as sense_figure}
 use Rattle.layers.specs.declared.turn.Sense.{Sense}
 use Rattle.layers.specs.declared.turn.Sense.TheVariants.{Upright, Inverted}
 use Rattle.wires.specs.Sources.{code_of, there}
-use Rattle.wires.specs.Taps.{figure_of as sign-figure}
+use Rattle.wires.specs.Taps.{figure_of as sign_figure}
 use Rattle.wires.specs.declared.source.Source.{Source}
 use Rattle.wires.specs.declared.source.Source.TheVariants.{Place, Outside, Clock}
 use Rattle.wires.specs.declared.tap.Sign.{Sign}
@@ -32,13 +32,13 @@ use Rattle.sheet.proofs.Sheets.{frames_counted}
 
 -- one place of a list of frames
 
-same_sense : (a b : Sense) → sense-figure a ≡ sense-figure b → a ≡ b
+same_sense : (a b : Sense) → sense_figure a ≡ sense_figure b → a ≡ b
 same_sense Upright Upright e = refl
 same_sense Upright Inverted e = absurd (omega arith)
 same_sense Inverted Upright e = absurd (omega arith)
 same_sense Inverted Inverted e = refl
 
-same_sign : (a b : Sign) → sign-figure a ≡ sign-figure b → a ≡ b
+same_sign : (a b : Sign) → sign_figure a ≡ sign_figure b → a ≡ b
 same_sign Plus Plus e = refl
 same_sign Plus Minus e = absurd (omega arith)
 same_sign Minus Plus e = absurd (omega arith)
@@ -62,7 +62,7 @@ same_plug : (n : ℕ) (p q : Plug) → there n p.tap.source ≡ true → there n
 same_plug n p q h k e =
     let i : p.input ≡ q.input = cc in
     let u : p.unit ≡ q.unit = cc in
-    let g : sign-figure p.tap.sign ≡ sign-figure q.tap.sign = cc in
+    let g : sign_figure p.tap.sign ≡ sign_figure q.tap.sign = cc in
     let t : code_of p.tap.source ≡ code_of q.tap.source = cc in
     λ j. record { unit = u j; input = i j; tap = record { sign = same_sign p.tap.sign q.tap.sign g j; source = same_source n p.tap.source q.tap.source h k t j } }
 

@@ -1,13 +1,13 @@
 -- What the lawful frames of a patch say of its figures; the blank sheet's are lawful.
-use Rattle.std.proofs.Common.{◌≡◌, ℕ, zero, suc, ◌+◌, ◌≤◌, List, [], ◌∷◌, length, get_or, replicate, sym, refl, ap, ◌∙◌, subst, arith}
+use Rattle.std.proofs.Common.{◌≡◌, ℕ, zero, suc, ◌≤◌, List, [], ◌∷◌, get_or, replicate, refl, ◌∙◌, subst, arith}
 use mathlib.Core.Logic.{∥∥₁_elim}
 use native.Mathlib.Bridge.{le_prop}
 use Rattle.std.proofs.lemmas.Int.{ints}
-use Rattle.frames.specs.Frames.{Frame, count, integrator, last}
+use Rattle.frames.specs.Frames.{count, integrator, last}
 use Rattle.frames.specs.Rules.{Lawful, counted}
 use Rattle.frames.proofs.Counts.{counted_few}
 use Rattle.layers.specs.declared.turn.Sense.TheVariants.{Upright}
-use Rattle.sheet.specs.Patches.{frames, unit_frames, tap_frames, blank_unit, blank_plug}
+use Rattle.sheet.specs.Patches.{frames, unit_frames}
 use Rattle.sheet.specs.declared.parts.Plug.{Plug}
 use Rattle.sheet.specs.declared.parts.UnitFigures.{UnitFigures}
 use Rattle.sheet.specs.Texts.{frames_of}

@@ -4,10 +4,10 @@ use Rattle.std.specs.Int.{w32}
 use Rattle.std.proofs.Common.{of_z}
 use Rattle.frames.specs.Frames.{Frame, count, integrator, servo, tap, last}
 use Rattle.frames.specs.Rules.{Lawful}
-use Rattle.layers.specs.Turns.{figure_of as sense-figure}
+use Rattle.layers.specs.Turns.{figure_of as sense_figure}
 use Rattle.layers.specs.declared.turn.Sense.TheVariants.{Upright}
 use Rattle.wires.specs.Sources.{code_of, there}
-use Rattle.wires.specs.Taps.{figure_of as sign-figure}
+use Rattle.wires.specs.Taps.{figure_of as sign_figure}
 use Rattle.wires.specs.declared.source.Source.TheVariants.{Place}
 use Rattle.wires.specs.declared.tap.Input.TheVariants.{X}
 use Rattle.wires.specs.declared.tap.Sign.TheVariants.{Plus}
@@ -26,10 +26,10 @@ make_frame u (Integrator n r) p k s = integrator u n p r k s
 make_frame u (Servo l) p k s = servo u l p k s
 
 abbrev pub unit_frame : ℕ → UnitFigures → Frame
-unit_frame u x = make_frame u x.make (of_z w32 x.position) x.divisor (sense-figure x.sense)
+unit_frame u x = make_frame u x.make (of_z w32 x.position) x.divisor (sense_figure x.sense)
 
 abbrev pub tap_frame : Plug → Frame
-tap_frame p = tap p.input p.unit (sign-figure p.tap.sign) (code_of p.tap.source)
+tap_frame p = tap p.input p.unit (sign_figure p.tap.sign) (code_of p.tap.source)
 
 -- what stands in the places that a sheet does not use; a unit of it is also that of the blank sheet
 abbrev pub blank_unit : UnitFigures

@@ -1,5 +1,5 @@
 -- Lawful frames, as far as they go, are those of a patch that is not whole yet.
-use Rattle.std.proofs.Common.{◌≡◌, ℕ, zero, suc, ◌+◌, ◌*◌, ◌^◌, ◌<◌, ◌≤◌, true, ◌≢◌, List, [], ◌∷◌, ◌++◌, length, get_or, set, replicate, pos, nat_abs, sym, refl, ap, ◌∙◌, subst, ⊎_elim, arith, length-set, w32, to_z, of_z}
+use Rattle.std.proofs.Common.{◌≡◌, ℕ, ◌+◌, ◌<◌, ◌≤◌, true, ◌≢◌, List, [], ◌∷◌, length, get_or, set, replicate, pos, nat_abs, sym, refl, ap, ◌∙◌, subst, ⊎_elim, arith, length-set, w32, to_z}
 use Rattle.std.proofs.lemmas.List.{get_or-set_same, get_or-set_other}
 use Rattle.std.proofs.lemmas.Int.{ints, of_z-to_z}
 use Rattle.std.proofs.lemmas.Bool.{cases_lt}
@@ -8,9 +8,8 @@ use Rattle.entries.proofs.Makes.{small_position}
 use Rattle.entries.proofs.Letters.{below_count}
 use Rattle.entries.proofs.Turning.{add_x, add_y, no_taps_yet}
 use Rattle.frames.specs.Frames.{Frame, count, integrator, servo, tap, last, Fits}
-use Rattle.frames.specs.Rules.{Lawful, Keeps, InRange, Ordered, Sourced, counted, latest, how_many, is_unit, is_last}
+use Rattle.frames.specs.Rules.{Lawful, InRange, Ordered, Sourced, counted, latest, how_many, is_unit, is_last}
 use Rattle.frames.proofs.Counts.{counted_few}
-use Rattle.layers.specs.Turns.{figure_of as sense-figure}
 use Rattle.sheet.specs.Patches.{unit_frame, tap_frame, unit_frames, tap_frames, blank_unit, blank_plug, largest_position}
 use Rattle.sheet.specs.declared.parts.MakeFigures.TheVariants.{Integrator, Servo}
 use Rattle.sheet.specs.declared.parts.Plug.{Plug}
@@ -18,8 +17,7 @@ use Rattle.sheet.specs.declared.parts.UnitFigures.{UnitFigures}
 use Rattle.sheet.proofs.Counting.{units_counted, units_many, units_no_latest, taps_counted, taps_units}
 use Rattle.sheet.proofs.Sheets.{past_blank}
 use Rattle.sheet.proofs.Slices.{frames_more, taps_more}
-use Rattle.wires.specs.Sources.{code_of, there}
-use Rattle.wires.specs.Taps.{figure_of as sign-figure}
+use Rattle.wires.specs.Sources.{there}
 use Rattle.wires.specs.declared.tap.Input.{Input}
 use Rattle.wires.specs.declared.tap.Input.TheVariants.{X, Y}
 

@@ -1,10 +1,10 @@
 -- The line of a text's first fault is the first with which no sheet's text agrees so far.
-use Rattle.std.proofs.Common.{◌≡◌, ℕ, ◌+◌, ◌-◌, ◌≤◌, List, [], ◌∷◌, ◌++◌, length, take, sym, refl, ap, ◌∙◌, subst, append_assoc, arith}
+use Rattle.std.proofs.Common.{◌≡◌, ℕ, ◌+◌, ◌-◌, ◌≤◌, List, [], ◌∷◌, ◌++◌, length, take, sym, ap, ◌∙◌, subst, append_assoc, arith}
 use mathlib.Core.HLevel.{⊥_prop}
 use mathlib.Core.Logic.{∥∥₁_elim}
 use Rattle.std.proofs.lemmas.List.{take_at, take_all, length_push}
 use Rattle.frames.specs.Faults.{Fault, extent, wrong, missing}
-use Rattle.frames.specs.Frames.{Frame, text}
+use Rattle.frames.specs.Frames.{Frame}
 use Rattle.frames.specs.Rules.{Lawful, how_many, is_last}
 use Rattle.lines.specs.Lines.{lines_of}
 use Rattle.lines.proofs.Numbering.{lines_cut}

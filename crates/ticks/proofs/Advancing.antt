@@ -1,5 +1,5 @@
 -- One unit's share in a tick: its new record keeps the bounds of the net, and the parts make up the whole.
-use Rattle.std.proofs.Common.{◌≡◌, ℕ, ◌+◌, ◌*◌, ◌<◌, ◌≤◌, ◌&&◌, T, List, length, get_or, set, ℤ, ◌+ℤ◌, ◌*ℤ◌, nat_abs, Option, sym, ap, ◌∙◌, subst, arith}
+use Rattle.std.proofs.Common.{◌≡◌, ℕ, ◌<◌, ◌≤◌, ◌&&◌, T, List, length, ℤ, ◌+ℤ◌, ◌*ℤ◌, nat_abs, Option, sym, ap, ◌∙◌, subst, arith}
 use Rattle.std.proofs.lemmas.List.{get_or-set_same}
 use Rattle.unit.proofs.Sizes.{small, size_sum}
 use Rattle.unit.specs.Figures.{Figures, Moved, weight_now}

@@ -1,17 +1,16 @@
 -- The second pass, place by place.
-use Rattle.std.proofs.Common.{◌≡◌, ℕ, ◌+◌, ◌<◌, ◌≤◌, ◌≢◌, List, length, get_or, set, pos, sym, refl, ap, ◌∙◌, subst, arith, below_more}
+use Rattle.std.proofs.Common.{◌≡◌, ℕ, ◌+◌, ◌≢◌, List, length, get_or, pos, sym, ap, ◌∙◌, subst, arith, below_more}
 use Rattle.std.proofs.lemmas.List.{get_or-set_other}
 use Rattle.unit.specs.Figures.{Figures}
 use Rattle.ticks.specs.Racks.{at_place}
 use Rattle.unit.specs.declared.pulse.Pulse.TheVariants.{Zero}
 use Rattle.net.specs.Changes.{TickCounted}
 use Rattle.net.specs.Records.{record_at, blank}
-use Rattle.net.specs.Signals.{InputsOf}
 use Rattle.net.specs.declared.inputs.Inputs.{Inputs}
 use Rattle.net.specs.declared.net.Net.{Net}
 use Rattle.net.specs.declared.record.Record.{Record}
 use Rattle.ticks.specs.Passes.{AdvancesAt, Gathered, Stepping}
-use Rattle.ticks.specs.Ticks.{Advanced, Ticked, x_pulse, tally}
+use Rattle.ticks.specs.Ticks.{Advanced, Ticked, tally}
 
 pub no_inputs : Inputs
 no_inputs = record { x = Zero; tally = record { value = pos 0; bounded = omega arith } }

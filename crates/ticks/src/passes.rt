@@ -14,7 +14,7 @@ use unit::unit::Unit;
 pub fn gather<U: Unit>(rack: &[U], net: &Net, inputs: &mut [Inputs]) -> Option<u8>
     requires room { net.now.count ≤ length rack.now }
     requires places { length inputs.old ≡ most_units }
-    ensures first { FirstLeaving figures rack.now net.now result }
+    ensures first { FirstLeaving U.figures rack.now net.now result }
     ensures gathered { IfNone result (Gathered net.now inputs.new net.now.count) }
 {
     for i in 0..net.count() {
@@ -31,9 +31,9 @@ pub fn gather<U: Unit>(rack: &[U], net: &Net, inputs: &mut [Inputs]) -> Option<u
 fn advance<U: Unit>(rack: &mut [U], net: &mut Net, i: usize, given: Inputs)
     requires there { i < length rack.old }
     requires few { i < most_units }
-    requires accepted { AcceptsAt figures rack.old i given.tally.value }
+    requires accepted { AcceptsAt U.figures rack.old i given.tally.value }
     requires room { RoomAt net.old i }
-    ensures { AdvancesAt figures rack.old net.old i given rack.new net.new }
+    ensures { AdvancesAt U.figures rack.old net.old i given rack.new net.new }
 {
     let pulse = step_at(rack, i, given.x, given.tally);
     let work = given.x.times(weight_at(rack, i));
@@ -47,8 +47,8 @@ pub fn step_all<U: Unit>(rack: &mut [U], net: &mut Net, inputs: &[Inputs])
     requires places { length inputs.now ≡ most_units }
     requires early { net.old.ticks < most_ticks }
     requires gathered { Gathered net.old inputs.now net.old.count }
-    requires accepted { AllAccept figures rack.old net.old net.old.count }
-    ensures { Ticked figures rack.old net.old rack.new net.new }
+    requires accepted { AllAccept U.figures rack.old net.old net.old.count }
+    ensures { Ticked U.figures rack.old net.old rack.new net.new }
 {
     net.count_tick();
     for i in 0..net.count() {

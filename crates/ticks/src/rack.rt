@@ -12,8 +12,8 @@ use unit::unit::Unit;
 // A step of the unit at place i that is known to be accepted.
 pub fn step_at<U: Unit>(rack: &mut [U], i: usize, x: Pulse, tally: Tally) -> Pulse
     requires there { i < length rack.old }
-    requires accepted { AcceptsAt figures rack.old i tally.value }
-    ensures { MovesAt figures rack.old i x tally.value result rack.new }
+    requires accepted { AcceptsAt U.figures rack.old i tally.value }
+    ensures { MovesAt U.figures rack.old i x tally.value result rack.new }
 {
     match rack[i].step(x, tally) {
         Some(pulse) => pulse,
@@ -23,21 +23,21 @@ pub fn step_at<U: Unit>(rack: &mut [U], i: usize, x: Pulse, tally: Tally) -> Pul
 
 pub fn accepts_at<U: Unit>(rack: &[U], i: usize, tally: Tally) -> bool
     requires { i < length rack.now }
-    ensures { (u : U) → Decides result (Accepts (at_place figures rack.now i u) tally.value) }
+    ensures { (u : U) → Decides result (Accepts (at_place U.figures rack.now i u) tally.value) }
 {
     rack[i].accepts(tally)
 }
 
 pub fn position_at<U: Unit>(rack: &[U], i: usize) -> i64
     requires { i < length rack.now }
-    ensures { (u : U) → result ≡ (at_place figures rack.now i u).position }
+    ensures { (u : U) → result ≡ (at_place U.figures rack.now i u).position }
 {
     rack[i].position()
 }
 
 pub fn weight_at<U: Unit>(rack: &[U], i: usize) -> i64
     requires { i < length rack.now }
-    ensures is { (u : U) → result ≡ weight_now (at_place figures rack.now i u) }
+    ensures is { (u : U) → result ≡ weight_now (at_place U.figures rack.now i u) }
     ensures light { unsigned_abs result ≤ largest }
 {
     rack[i].weight()
@@ -45,14 +45,14 @@ pub fn weight_at<U: Unit>(rack: &[U], i: usize) -> i64
 
 pub fn residue_at<U: Unit>(rack: &[U], i: usize) -> i64
     requires { i < length rack.now }
-    ensures { (u : U) → result ≡ told_residue (at_place figures rack.now i u) }
+    ensures { (u : U) → result ≡ told_residue (at_place U.figures rack.now i u) }
 {
     rack[i].residue()
 }
 
 pub fn modulus_at<U: Unit>(rack: &[U], i: usize) -> u64
     requires { i < length rack.now }
-    ensures { (u : U) → result ≡ told_modulus (at_place figures rack.now i u) }
+    ensures { (u : U) → result ≡ told_modulus (at_place U.figures rack.now i u) }
 {
     rack[i].modulus()
 }

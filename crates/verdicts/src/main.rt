@@ -1,5 +1,7 @@
 // Reads a table of patch texts, one on each line with its name before it, and prints the verdict on each: what reading it
 // answers, once the check for C has said the same, and an accepted text has been written again byte for byte.
+#![tactic(auto)]
+
 use patch::patch_check;
 use reader::read::read;
 use sheet::sheet::Sheet;

@@ -1,4 +1,6 @@
 // The worked examples of docs/MACHINE.md, checked against the definitions themselves.
+#![tactic(auto)]
+
 ghost use Rattle.std.specs.Prelude.{◌≡◌, length};
 ghost use Rattle.std.specs.List.{AllByRecursion as All};
 ghost use Rattle.worked.specs.Examples.{examples, Holds};

@@ -1,5 +1,5 @@
 -- One line more of a text that is written so far.
-use Rattle.std.proofs.Common.{◌≡◌, ℕ, suc, ◌+◌, ◌*◌, ◌<◌, ◌≤◌, List, [], ◌∷◌, ◌++◌, length, get_or, pos, sum, sym, refl, ap, ◌∙◌, subst, add-one, arith, length-append}
+use Rattle.std.proofs.Common.{◌≡◌, ℕ, ◌+◌, List, [], ◌∷◌, ◌++◌, length, get_or, pos, sum, sym, refl, ap, ◌∙◌, subst, add-one, arith, length-append}
 use Rattle.buffer.specs.Puts.{Put}
 use Rattle.buffer.proofs.Puts.{then}
 use Rattle.frames.specs.Frames.{Frame, widths, line, text}

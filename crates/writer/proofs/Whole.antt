@@ -1,14 +1,12 @@
 -- The length of a whole text, and its parts put together.
-use Rattle.std.proofs.Common.{◌≡◌, ℕ, zero, suc, ◌+◌, ◌*◌, ◌<◌, ◌≤◌, List, [], ◌∷◌, length, get_or, take, sum, sym, refl, ap, ◌∙◌, subst, add-one, arith}
+use Rattle.std.proofs.Common.{◌≡◌, ℕ, zero, suc, ◌+◌, ◌*◌, ◌≤◌, List, [], ◌∷◌, length, get_or, take, sum, sym, ap, ◌∙◌, add-one, arith}
 use Rattle.std.proofs.lemmas.List.{take_all}
 use Rattle.std.proofs.lemmas.List.Sums.{sum_by_more}
-use Rattle.buffer.specs.Puts.{Put}
-use Rattle.frames.specs.Frames.{Frame, count, last, widths, text}
+use Rattle.frames.specs.Frames.{count, last, text}
 use Rattle.frames.proofs.Lengths.{length-text_more}
-use Rattle.sheet.specs.Patches.{unit_frame, unit_frames, tap_frames, frames, blank_unit}
+use Rattle.sheet.specs.Patches.{unit_frame, unit_frames, tap_frames, blank_unit}
 use Rattle.sheet.specs.Texts.{written}
 use Rattle.sheet.specs.Views.{units_of, taps_of}
-use Rattle.sheet.specs.declared.parts.Plug.{Plug}
 use Rattle.sheet.specs.declared.parts.UnitFigures.{UnitFigures}
 use Rattle.sheet.specs.declared.sheet.Sheet.{Sheet}
 use Rattle.sheet.proofs.Extents.{units_length, taps_length}

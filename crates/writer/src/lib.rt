@@ -1,3 +1,5 @@
 // A sheet written as a patch text.
+#![tactic(auto)]
+
 pub mod put;
 pub mod write;

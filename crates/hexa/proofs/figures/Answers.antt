@@ -2,7 +2,7 @@ use Rattle.std.proofs.Common.{◌≡◌, ℕ, ◌+◌, ◌-◌, ◌^◌, ◌<◌
 use Rattle.std.proofs.ByRecursion.{All-get_or}
 use Rattle.std.proofs.lemmas.List.{length-replicate}
 use Rattle.hexa.specs.Hex.{hex, NoDigits}
-use Rattle.hexa.proofs.Widths.{Sofar, more, short, whole, other_length, bad_part}
+use Rattle.hexa.proofs.Widths.{more, short, whole, other_length, bad_part}
 use Rattle.hexa.proofs.figures.Goals as goal
 
 pub loop-i-init : goal.loop-i-init
@@ -25,10 +25,10 @@ number-requires g c =
 part : (ds : List ℕ) (at w : ℕ) → take (at + w - at) (drop at ds) ≡ take w (drop at ds)
 part ds at w = let e : at + w - at ≡ w = omega arith in ap (λ k. take k (drop at ds)) e
 
-pub returns-in-default : goal.returns-in-default
-returns-in-default g c =
+pub returns-in_default : goal.returns-in_default
+returns-in_default g c =
     bad_part c.args.digits.now c.loop-i.at (get_or c.args.widths c.loop-i.i 0) _ (omega (arith, c.loop-i.invariant.within))
-    (subst NoDigits (part c.args.digits.now c.loop-i.at (get_or c.args.widths c.loop-i.i 0)) c.in-default.ensures)
+    (subst NoDigits (part c.args.digits.now c.loop-i.at (get_or c.args.widths c.loop-i.i 0)) c.in_default.ensures)
 
 pub loop-i-preserved : goal.loop-i-preserved
 loop-i-preserved g c =

@@ -1,17 +1,17 @@
-use Rattle.std.proofs.Common.{◌≡◌, ◌+◌, ◌*◌, ◌^◌, ◌<◌, ◌≤◌, [], ◌∷◌, ◌++◌, length, get_or, take, sym, refl, ap, ◌∙◌, arith, rules}
+use Rattle.std.proofs.Common.{◌≡◌, ◌+◌, length, sym, ap, ◌∙◌, arith, rules}
 use Rattle.std.proofs.lemmas.List.{take_more, take_all}
-use Rattle.hexa.specs.Hex.{hex, digit}
+use Rattle.hexa.specs.Hex.{hex}
 use Rattle.hexa.proofs.Digits.{hex_none, hex_push, room_more, room}
 use Rattle.hexa.proofs.number.Goals as goal
 
 pub loop-d-init : goal.loop-d-init
 loop-d-init c = (omega arith, sym (hex_none 0))
 
-pub overflow-mul-v : goal.overflow-mul-v
-overflow-mul-v c = let r = room_more _ _ 0 c.loop-d.invariant.0 (omega arith) in let q = room (c.loop-d.d-index + 1) 8 (omega arith) in search (rules, r, q)
+pub overflow_mul-v : goal.overflow_mul-v
+overflow_mul-v c = let r = room_more _ _ 0 c.loop-d.invariant.0 (omega arith) in let q = room (c.loop-d.d-index + 1) 8 (omega arith) in search (rules, r, q)
 
-pub overflow-add-v : goal.overflow-add-v
-overflow-add-v c = let r = room_more _ _ _ c.loop-d.invariant.0 c.in-Some.ensures.0 in let q = room (c.loop-d.d-index + 1) 8 (omega arith) in search (rules, r, q)
+pub overflow_add-v : goal.overflow_add-v
+overflow_add-v c = let r = room_more _ _ _ c.loop-d.invariant.0 c.in-Some.ensures.0 in let q = room (c.loop-d.d-index + 1) 8 (omega arith) in search (rules, r, q)
 
 pub loop-d-preserved : goal.loop-d-preserved
 loop-d-preserved c =

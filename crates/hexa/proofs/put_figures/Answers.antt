@@ -1,9 +1,9 @@
-use Rattle.std.proofs.Common.{◌≡◌, ℕ, ◌+◌, ◌-◌, ◌^◌, ◌<◌, ◌≤◌, List, length, get_or, take, drop, sym, refl, ap, ◌∙◌, subst, add-zero, arith, rules}
+use Rattle.std.proofs.Common.{◌≡◌, ◌+◌, length, get_or, sym, subst, add-zero, arith, rules}
 use Rattle.std.proofs.lemmas.List.{take_all}
 use Rattle.std.proofs.lemmas.List.Sums.{sum_by_more, sum_by-take-le}
 use Rattle.buffer.specs.Puts.{Put}
 use Rattle.buffer.proofs.Puts.{put_none, then}
-use Rattle.hexa.specs.Hex.{hex, hexes}
+use Rattle.hexa.specs.Hex.{hexes}
 use Rattle.hexa.proofs.Digits.{length-hex}
 use Rattle.hexa.proofs.Widths.{hexes_more}
 use Rattle.hexa.proofs.put_figures.Goals as goal
@@ -11,8 +11,8 @@ use Rattle.hexa.proofs.put_figures.Goals as goal
 pub loop-i-init : goal.loop-i-init
 loop-i-init g c = (sym (add-zero c.args.at), put_none c.args.at c.args.buf.now (omega arith))
 
-pub put-hex-end-requires : goal.put-hex-end-requires
-put-hex-end-requires g c =
+pub put_hex-end-requires : goal.put_hex-end-requires
+put_hex-end-requires g c =
     let n : length c.args.widths ≡ g.row.N = search rules in
     omega (arith, c.loop-i.invariant.0, sum_by_more (λ x. x) c.args.widths c.loop-i.i 0 (omega arith), sum_by-take-le (λ x. x) c.args.widths (c.loop-i.i + 1))
 
@@ -20,9 +20,9 @@ pub loop-i-preserved : goal.loop-i-preserved
 loop-i-preserved g c =
     let n : length c.args.widths ≡ g.row.N = search rules in
     let m : length c.args.values ≡ g.row.N = search rules in
-    let p = c.put-hex-end.ensures in (
+    let p = c.put_hex-end.ensures in (
       omega (arith, c.loop-i.invariant.0, sum_by_more (λ x. x) c.args.widths c.loop-i.i 0 (omega arith), p.end_is, length-hex (get_or c.args.widths c.loop-i.i 0) (get_or c.args.values c.loop-i.i 0)),
-      subst (λ xs. Put c.args.at xs c.args.buf.now c.put-hex-end.new.buf c.put-hex-end.result) (sym (hexes_more c.args.widths c.args.values c.loop-i.i (omega arith) (omega arith))) (then c.loop-i.invariant.1 p),
+      subst (λ xs. Put c.args.at xs c.args.buf.now c.put_hex-end.new.buf c.put_hex-end.result) (sym (hexes_more c.args.widths c.args.values c.loop-i.i (omega arith) (omega arith))) (then c.loop-i.invariant.1 p),
     )
 
 pub returns : goal.returns

@@ -1,4 +1,4 @@
-use Rattle.std.proofs.Common.{◌≡◌, ◌+◌, ◌-◌, ◌≤◌, ◌++◌, length, take, drop, sym, refl, ap, ◌∙◌, add-zero, arith, take-append-drop}
+use Rattle.std.proofs.Common.{◌≡◌, ◌+◌, ◌-◌, ◌++◌, take, drop, sym, ap, ◌∙◌, add-zero, arith, take-append-drop}
 use Rattle.std.proofs.lemmas.List.{take-set-le}
 use Rattle.hexa.specs.Hex.{hex}
 use Rattle.hexa.proofs.Digits.{digit_before, hex_none, length-hex}
@@ -7,7 +7,7 @@ use Rattle.hexa.proofs.put_hex.Goals as goal
 pub loop-i-preserved : goal.loop-i-preserved
 loop-i-preserved c = (
   take-set-le c.args.at c.loop-i.buf (c.args.at + (c.loop-i.i - 1)) _ (omega arith) ∙ c.loop-i.invariant.0,
-  digit_before c.loop-i.buf c.args.at c.loop-i.i c.loop-i.rest _ (omega arith) (omega arith) c.digit-of.ensures ∙ c.loop-i.invariant.1,
+  digit_before c.loop-i.buf c.args.at c.loop-i.i c.loop-i.rest _ (omega arith) (omega arith) c.digit_of.ensures ∙ c.loop-i.invariant.1,
 )
 
 pub returns : goal.returns

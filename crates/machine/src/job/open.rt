@@ -50,14 +50,14 @@ impl OpenJob {
     // Sets the job: nothing on any line, nothing counted, the units as they are. A refused job comes back. Whatever calls
     // follow, the law of runs holds after each of them.
     pub fn set<U: Unit>(self, rack: &[U], net: &mut Net) -> Result<SetJob, NotSet>
-        ensures answers { SetAnswers figures self.units rack.now net.old result net.new }
-        ensures law { SetLaw figures self.units rack.now result net.new }
+        ensures answers { SetAnswers U.figures self.units rack.now net.old result net.new }
+        ensures law { SetLaw U.figures self.units rack.now result net.new }
     {
         self.set_up(rack, net)
     }
 
     fn set_up<U: Unit>(self, rack: &[U], net: &mut Net) -> Result<SetJob, NotSet>
-        ensures { SetAnswers figures self.units rack.now net.old result net.new }
+        ensures { SetAnswers U.figures self.units rack.now net.old result net.new }
     {
         if !matches(self.units, rack, net) {
             return Err(NotSet {
@@ -86,7 +86,7 @@ impl OpenJob {
 // The lowest unit of the job that tells the modulus 0, if any.
 fn first_untold<U: Unit>(rack: &[U], units: u8) -> Option<u8>
     requires { units ≤ length rack.now }
-    ensures { FirstUntold figures units rack.now result }
+    ensures { FirstUntold U.figures units rack.now result }
 {
     for i in 0..units {
         if modulus_at(rack, i as usize) == 0 {

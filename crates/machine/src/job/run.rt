@@ -42,7 +42,7 @@ impl SetJob {
 
     // One tick of the whole rack: all units step, or none does.
     pub fn tick<U: Unit>(&self, rack: &mut [U], net: &mut Net) -> Result<(), Refusal>
-        ensures { TickAnswers figures self.now.units rack.old net.old result rack.new net.new }
+        ensures { TickAnswers U.figures self.now.units rack.old net.old result rack.new net.new }
     {
         if !matches(self.units, rack, net) {
             return Err(Refusal::OtherRackOrNet);
@@ -64,8 +64,8 @@ impl SetJob {
 
     // So many ticks, or those before the first that is refused.
     pub fn run<U: Unit>(&self, rack: &mut [U], net: &mut Net, ticks: u32) -> Ran
-        ensures chain { Chain figures self.now.units rack.old net.old result.made rack.new net.new }
-        ensures ended { Ended figures self.now.units ticks result.made result.refusal rack.new net.new }
+        ensures chain { Chain U.figures self.now.units rack.old net.old result.made rack.new net.new }
+        ensures ended { Ended U.figures self.now.units ticks result.made result.refusal rack.new net.new }
     {
         if !matches(self.units, rack, net) {
             return Ran {

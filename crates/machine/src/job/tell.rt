@@ -15,7 +15,7 @@ use unit::unit::Unit;
 impl SetJob {
     // The figures of one unit.
     pub fn read<U: Unit>(&self, rack: &[U], net: &Net, unit: u8) -> Result<Reading, Refusal>
-        ensures { ReadAnswers figures self.now.units rack.now net.now unit result }
+        ensures { ReadAnswers U.figures self.now.units rack.now net.now unit result }
     {
         if !matches(self.units, rack, net) {
             return Err(Refusal::OtherRackOrNet);
@@ -34,7 +34,7 @@ impl SetJob {
         unit: u8,
         buffer: &mut [u8],
     ) -> Result<usize, Refusal>
-        ensures { RowAnswers figures self.now.units rack.now net.now unit buffer.old result buffer.new }
+        ensures { RowAnswers U.figures self.now.units rack.now net.now unit buffer.old result buffer.new }
     {
         if !matches(self.units, rack, net) {
             return Err(Refusal::OtherRackOrNet);
@@ -53,7 +53,7 @@ impl SetJob {
 fn reading<U: Unit>(rack: &[U], net: &Net, unit: u8) -> Reading
     requires there { unit < length rack.now }
     requires few { unit < most_units }
-    ensures { Reads figures rack.now net.now unit result }
+    ensures { Reads U.figures rack.now net.now unit result }
 {
     let place = unit as usize;
     let record = net.record(place);

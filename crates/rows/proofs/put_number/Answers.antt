@@ -6,5 +6,5 @@ use Rattle.rows.proofs.put_number.Goals as goal
 
 pub returns : goal.returns
 returns c =
-    let text : signed_decimal c.args.z ≡ 45 ∷ decimal c.unsigned-abs-size.result = grind (arith, ints, to_z-of_z) in
-    rw text (then c.put-byte-digits.ensures c.put-decimal-2.ensures)
+    let text : signed_decimal c.args.z ≡ 45 ∷ decimal c.unsigned_abs-size.result = grind (arith, ints, to_z-of_z) in
+    rw text (then c.put_byte-digits.ensures c.put_decimal-2.ensures)

@@ -7,18 +7,18 @@ use Rattle.rows.proofs.put_spaced.Goals as goal
 pub loop-z-init : goal.loop-z-init
 loop-z-init c = put_none c.args.at c.args.buf.now (omega arith)
 
-pub put-byte-text-requires : goal.put-byte-text-requires
-put-byte-text-requires c =
+pub put_byte-text-requires : goal.put_byte-text-requires
+put_byte-text-requires c =
     omega (arith, more_within c.args.numbers.now c.loop-z.z-index c.loop-z-test.true (search rules))
 
-pub put-number-end-requires : goal.put-number-end-requires
-put-number-end-requires c =
+pub put_number-end-requires : goal.put_number-end-requires
+put_number-end-requires c =
     omega (arith, more_within c.args.numbers.now c.loop-z.z-index c.loop-z-test.true (search rules))
 
 pub loop-z-preserved : goal.loop-z-preserved
 loop-z-preserved c =
     rw (spaced_more c.args.numbers.now c.loop-z.z-index c.loop-z-test.true (search rules))
-    (then c.loop-z.invariant (then c.put-byte-text.ensures c.put-number-end.ensures))
+    (then c.loop-z.invariant (then c.put_byte-text.ensures c.put_number-end.ensures))
 
 pub returns : goal.returns
 returns c = rw (take_all c.loop-z.z-index c.args.numbers.now c.loop-z-test.false) at c.loop-z.invariant

@@ -4,11 +4,11 @@ use Rattle.frames.specs.Frames.{last}
 use Rattle.entries.proofs.Letters.{bad_figure, keeps}
 use Rattle.entries.proofs.tails.last_entry.Goals as goal
 
-pub returns-in-default : goal.returns-in-default
-returns-in-default c = λ above n w. no_digits (last 0 0) _ w.stand refl c.in-default.ensures
+pub returns-in_default : goal.returns-in_default
+returns-in_default c = λ above n w. no_digits (last 0 0) _ w.stand refl c.in_default.ensures
 
-pub returns-then-step-lt-SHORTEST-STEP : goal.returns-then-step-lt-SHORTEST-STEP
-returns-then-step-lt-SHORTEST-STEP c = λ above n w. bad_figure above _ _ c.in-Some.ensures w.stand tt (λ r. omega (arith, r))
+pub returns-then-step-lt-SHORTEST_STEP : goal.returns-then-step-lt-SHORTEST_STEP
+returns-then-step-lt-SHORTEST_STEP c = λ above n w. bad_figure above _ _ c.in-Some.ensures w.stand tt (λ r. omega (arith, r))
 
 pub returns : goal.returns
 returns c = λ above n w.

@@ -1,7 +1,7 @@
-use Rattle.std.proofs.Common.{◌≡◌, ℕ, ◌<◌, true, List, ◌∷◌, sym, refl, ap, ◌∙◌, subst, arith}
+use Rattle.std.proofs.Common.{◌≡◌, ℕ, true, List, ◌∷◌, sym, refl, subst, arith}
 use Rattle.frames.specs.Faults.{no_digits}
 use Rattle.frames.specs.Frames.{Frame, tap, tap_letter}
-use Rattle.frames.specs.Rules.{Ordered, counted}
+use Rattle.frames.specs.Rules.{Ordered}
 use Rattle.wires.specs.Sources.{code_of, there}
 use Rattle.wires.specs.Taps.{figure_of}
 use Rattle.entries.specs.Entries.{Says, TailWanted}
@@ -9,8 +9,8 @@ use Rattle.entries.proofs.Letters.{bad_number, bad_figure, bad_source, keeps, be
 use Rattle.entries.proofs.taps.tap_entry.Goals as goal
 use Rattle.entries.proofs.taps.tap_entry.Goals.{In-Some, In-Some-with}
 
-pub returns-in-default : goal.returns-in-default
-returns-in-default c = λ above n w. no_digits (tap c.args.input 0 0 0) _ w.stand refl c.in-default.ensures
+pub returns-in_default : goal.returns-in_default
+returns-in_default c = λ above n w. no_digits (tap c.args.input 0 0 0) _ w.stand refl c.in_default.ensures
 
 says : (c : In-Some) → Says (tap_letter c.args.input ∷ c.args.digits.now) (tap c.args.input c.in-Some.unit c.in-Some.sign c.in-Some.source)
 says c = c.in-Some.ensures c.args.input
@@ -20,22 +20,22 @@ returns-then-unit-count c = λ above n w.
     bad_number above _ _ (says (goal.at.returns-then-unit-count c).In-Some) w.stand
     (λ o. omega (arith, below_count above c.args.input c.in-Some.unit c.in-Some.sign c.in-Some.source o, w.counted))
 
-pub returns-in-default-with : goal.returns-in-default-with
-returns-in-default-with c = λ above n w.
-    bad_number above _ _ (says (goal.at.returns-in-default-with c).In-Some) w.stand (c.in-default-with.ensures above n c.in-Some.sign c.in-Some.source w.turn)
+pub returns-in_default-with : goal.returns-in_default-with
+returns-in_default-with c = λ above n w.
+    bad_number above _ _ (says (goal.at.returns-in_default-with c).In-Some) w.stand (c.in_default-with.ensures above n c.in-Some.sign c.in-Some.source w.turn)
 
 ordered : (c : In-Some-with) (above : List Frame) (n : ℕ) → TailWanted above c.args.count c.args.latest n → Ordered above (tap c.args.input c.in-Some.unit c.in-Some.sign c.in-Some.source)
 ordered c above n w = (c.in-Some-with.ensures above n c.in-Some.sign c.in-Some.source w.turn (omega (arith, w.counted))).ordered
 
-pub returns-in-default-of : goal.returns-in-default-of
-returns-in-default-of c = λ above n w.
-    bad_figure above _ _ (says (goal.at.returns-in-default-of c).In-Some) w.stand (ordered (goal.at.returns-in-default-of c).In-Some-with above n w) (λ r. c.in-default-of.ensures r.0 r.1)
+pub returns-in_default-of : goal.returns-in_default-of
+returns-in_default-of c = λ above n w.
+    bad_figure above _ _ (says (goal.at.returns-in_default-of c).In-Some) w.stand (ordered (goal.at.returns-in_default-of c).In-Some-with above n w) (λ r. c.in_default-of.ensures r.0 r.1)
 
-pub returns-in-default-of-2 : goal.returns-in-default-of-2
-returns-in-default-of-2 c = λ above n w.
-    bad_source above _ _ (says (goal.at.returns-in-default-of-2 c).In-Some) w.stand (ordered (goal.at.returns-in-default-of-2 c).In-Some-with above n w)
+pub returns-in_default-of-2 : goal.returns-in_default-of-2
+returns-in_default-of-2 c = λ above n w.
+    bad_source above _ _ (says (goal.at.returns-in_default-of-2 c).In-Some) w.stand (ordered (goal.at.returns-in_default-of-2 c).In-Some-with above n w)
     (c.in-Some-of.sign, c.in-Some-of.ensures)
-    (λ r. c.in-default-of-2.ensures r.0 (subst (λ k. there k r.0 ≡ true) w.counted r.1) r.2)
+    (λ r. c.in_default-of-2.ensures r.0 (subst (λ k. there k r.0 ≡ true) w.counted r.1) r.2)
 
 pub returns : goal.returns
 returns c = λ above n w.

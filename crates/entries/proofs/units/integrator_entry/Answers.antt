@@ -1,18 +1,18 @@
-use Rattle.std.proofs.Common.{◌≡◌, ◌∷◌, sym, refl, ◌∙◌, subst}
+use Rattle.std.proofs.Common.{◌∷◌, sym, refl, ◌∙◌, subst}
 use Rattle.frames.specs.Faults.{no_digits}
 use Rattle.frames.specs.Frames.{integrator}
 use Rattle.entries.specs.Entries.{UnitRead}
 use Rattle.entries.proofs.Letters.{wants, bad_number, bad_figure, unit_read}
 use Rattle.entries.proofs.units.integrator_entry.Goals as goal
 
-pub returns-in-default : goal.returns-in-default
-returns-in-default c = λ above w. no_digits (integrator 0 0 0 0 0 0) _ (wants above _ w) refl c.in-default.ensures
+pub returns-in_default : goal.returns-in_default
+returns-in_default c = λ above w. no_digits (integrator 0 0 0 0 0 0) _ (wants above _ w) refl c.in_default.ensures
 
 pub returns-then-unit-next : goal.returns-then-unit-next
 returns-then-unit-next c = λ above w. bad_number above _ _ c.in-Some.ensures (wants above _ w) (λ o. c.if-unit-next.true (o ∙ w.number))
 
-pub returns-in-default-integrator-unit : goal.returns-in-default-integrator-unit
-returns-in-default-integrator-unit c = λ above w. bad_figure above _ _ c.in-Some.ensures (wants above _ w) (c.if-unit-next.false ∙ sym w.number) (c.in-default-integrator-unit.ensures c.in-Some.unit)
+pub returns-in_default-integrator_unit : goal.returns-in_default-integrator_unit
+returns-in_default-integrator_unit c = λ above w. bad_figure above _ _ c.in-Some.ensures (wants above _ w) (c.if-unit-next.false ∙ sym w.number) (c.in_default-integrator_unit.ensures c.in-Some.unit)
 
 pub returns : goal.returns
-returns c = λ above w. subst (λ u. UnitRead above u (73 ∷ c.args.digits.now) c.in-Some-integrator-unit.figures) c.if-unit-next.false (unit_read above _ _ c.in-Some.ensures (wants above _ w) c.in-Some.unit _ (c.if-unit-next.false ∙ sym w.number) tt (c.in-Some-integrator-unit.ensures c.in-Some.unit))
+returns c = λ above w. subst (λ u. UnitRead above u (73 ∷ c.args.digits.now) c.in-Some-integrator_unit.figures) c.if-unit-next.false (unit_read above _ _ c.in-Some.ensures (wants above _ w) c.in-Some.unit _ (c.if-unit-next.false ∙ sym w.number) tt (c.in-Some-integrator_unit.ensures c.in-Some.unit))

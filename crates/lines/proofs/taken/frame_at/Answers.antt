@@ -1,4 +1,4 @@
-use Rattle.std.proofs.Common.{◌≡◌, ℕ, ◌+◌, ◌-◌, ◌^◌, ◌<◌, ◌≤◌, List, ◌∷◌, ◌++◌, length, take, drop, sym, refl, ap, ◌∙◌, subst, inl, inr, arith, rules}
+use Rattle.std.proofs.Common.{◌≡◌, ℕ, ◌+◌, ◌-◌, ◌<◌, ◌≤◌, List, length, take, drop, sym, ap, ◌∙◌, subst, inl, inr, arith}
 use Rattle.lines.specs.Lines.{lines_of, LineAt}
 use Rattle.lines.specs.Kinds.{letter_of, digits_of}
 use Rattle.lines.specs.Taken.{no_line, no_letter, no_digits}
@@ -16,8 +16,8 @@ loop-i-init c = (c.new-lines.ensures.text, subst (Reached c.args.text.now 0) (sy
 ended : (t u : List ℕ) (at k n : ℕ) → u ≡ t → Reached t k at → length u ≤ at → k < n → length (lines_of t) < n
 ended t u at k n e r h lt = omega (arith, no_more r (omega (arith, ap length e)))
 
-pub returns-in-default : goal.returns-in-default
-returns-in-default c = no_line (inr (ended _ _ _ _ _ c.loop-i.invariant.0 c.loop-i.invariant.1 c.in-default.ensures.end (omega arith)))
+pub returns-in_default : goal.returns-in_default
+returns-in_default c = no_line (inr (ended _ _ _ _ _ c.loop-i.invariant.0 c.loop-i.invariant.1 c.in_default.ensures.end (omega arith)))
 
 pub loop-i-preserved : goal.loop-i-preserved
 loop-i-preserved c =
@@ -25,8 +25,8 @@ loop-i-preserved c =
     let n : c.loop-i.i - 1 + 1 ≡ c.loop-i.i + 1 - 1 = omega arith in
     (told.text ∙ c.loop-i.invariant.0, subst (λ k. Reached c.args.text.now k c.next.new.self.at) n (more c.loop-i.invariant.1 _ _ (subst (λ t. LineAt t c.loop-i.lines.at c.in-Some.field-0.bytes.now c.next.new.self.at) c.loop-i.invariant.0 told.cut)))
 
-pub returns-in-default-next : goal.returns-in-default-next
-returns-in-default-next c = no_line (inr (ended _ _ _ _ _ c.loop-i.invariant.0 c.loop-i.invariant.1 c.in-default-next.ensures.end (omega arith)))
+pub returns-in_default-next : goal.returns-in_default-next
+returns-in_default-next c = no_line (inr (ended _ _ _ _ _ c.loop-i.invariant.0 c.loop-i.invariant.1 c.in_default-next.ensures.end (omega arith)))
 
 -- the line that was asked for, in the text as it was passed
 cut : (c : In-Some-next) → LineAt c.args.text.now c.loop-i.lines.at c.in-Some-next.found.bytes.now c.next-2.new.self.at
@@ -35,16 +35,16 @@ cut c = subst (λ t. LineAt t c.loop-i.lines.at c.in-Some-next.found.bytes.now c
 reached : (c : In-Some-next) → Reached c.args.text.now (c.args.line - 1) c.loop-i.lines.at
 reached c = let n : c.loop-i.i ≡ c.args.line = omega arith in subst (λ k. Reached c.args.text.now (k - 1) c.loop-i.lines.at) n c.loop-i.invariant.1
 
-pub returns-in-default-of : goal.returns-in-default-of
-returns-in-default-of c =
-    let k = (goal.at.returns-in-default-of c).In-Some-next in
-    no_letter _ (line_is _ _ _ _ _ (omega arith) (reached k) (cut k)) c.in-default-of.ensures
+pub returns-in_default-of : goal.returns-in_default-of
+returns-in_default-of c =
+    let k = (goal.at.returns-in_default-of c).In-Some-next in
+    no_letter _ (line_is _ _ _ _ _ (omega arith) (reached k) (cut k)) c.in_default-of.ensures
 
-pub returns-then-not-has-digits : goal.returns-then-not-has-digits
-returns-then-not-has-digits c =
-    let k = (goal.at.returns-then-not-has-digits c).In-Some-next in
+pub returns-then-not-has_digits : goal.returns-then-not-has_digits
+returns-then-not-has_digits c =
+    let k = (goal.at.returns-then-not-has_digits c).In-Some-next in
     let e = c.in-Some-of.ensures.is in
-    no_digits c.in-Some-of.frame (line_is _ _ _ _ _ (omega arith) (reached k) (subst (λ l. LineAt c.args.text.now c.loop-i.lines.at l c.next-2.new.self.at) e (cut k))) c.if-not-has-digits.ensures
+    no_digits c.in-Some-of.frame (line_is _ _ _ _ _ (omega arith) (reached k) (subst (λ l. LineAt c.args.text.now c.loop-i.lines.at l c.next-2.new.self.at) e (cut k))) c.if-not-has_digits.ensures
 
 pub returns : goal.returns
 returns c =
@@ -55,7 +55,7 @@ returns c =
     let at : (digits_of f).at ≡ c.loop-i.lines.at + 1 = omega (arith, told.at, c.in-Some-next.ensures.at, line_room _ _ _ _ (cut k), ap length told.is) in
     record {
       line = line_is _ _ _ _ _ (omega arith) (reached k) l;
-      digits = c.if-not-has-digits.ensures;
+      digits = c.if-not-has_digits.ensures;
       place = at ∙ ap (λ n. n + 1) ((reached k).place (omega (arith, l.on, l.within)));
       part = ap (λ n. take (length (digits_of f).bytes.now) (drop n c.args.text.now)) at ∙ line_part _ _ (letter_of f) _ _ l;
     }

@@ -1,11 +1,11 @@
-use Rattle.std.proofs.Common.{◌≡◌, ◌+◌, sym, refl, ap, ◌∙◌, subst}
+use Rattle.std.proofs.Common.{◌+◌, refl, ap, ◌∙◌}
 use Rattle.lines.specs.declared.reader.LineReader.{LineReader}
 use Rattle.reader.proofs.Reading.{more, wrong_line, missing_line, one_line, fault_as}
 use Rattle.reader.proofs.phases.read_count.Goals as goal
 
-pub returns-in-default : goal.returns-in-default
-returns-in-default c =
-    let e = c.in-default.ensures in
+pub returns-in_default : goal.returns-in_default
+returns-in_default c =
+    let e = c.in_default.ensures in
     fault_as _ _ _ _ _ c.missing.ensures.refusal (c.missing.ensures.line ∙ ap (λ n. n + 1) (ap (λ (r : LineReader). r.lines) e.same ∙ c.requires.numbered)) (missing_line c.requires e.end refl)
 
 pub returns-in-Ok : goal.returns-in-Ok

@@ -1,14 +1,14 @@
-use Rattle.std.proofs.Common.{◌≡◌, ℕ, ◌+◌, ◌≤◌, length, Ok, sym, refl, ap, ◌∙◌, subst, arith, rules}
+use Rattle.std.proofs.Common.{◌≡◌, ◌+◌, ◌≤◌, length, Ok, ap, ◌∙◌, subst, arith, rules}
 use Rattle.entries.specs.Entries.{TailEntry, TapRead}
 use Rattle.entries.specs.declared.taps.Tail.{Tail}
 use Rattle.lines.specs.declared.reader.LineReader.{LineReader}
 use Rattle.sheet.specs.Patches.{unit_frames, tap_frames}
 use Rattle.reader.proofs.Reading.{wrong_line, missing_line, one_line, fault_as}
-use Rattle.reader.proofs.Tapping.{Sofar, start, few_units, wanted, open_end, place, tap_more, ended}
+use Rattle.reader.proofs.Tapping.{start, few_units, wanted, open_end, place, tap_more, ended}
 use Rattle.reader.proofs.phases.read_taps.Goals as goal
 
-pub overflow-cast-count : goal.overflow-cast-count
-overflow-cast-count c = let few = few_units _ _ _ _ _ c.requires.reading in search (rules, few)
+pub overflow_cast-count : goal.overflow_cast-count
+overflow_cast-count c = let few = few_units _ _ _ _ _ c.requires.reading in search (rules, few)
 
 pub loop-line-init : goal.loop-line-init
 loop-line-init c = start _ c.args.units.now _ c.args.plugs.now _ _ c.requires.reading c.requires.long c.start-latest.ensures
@@ -37,7 +37,7 @@ loop-line-preserved c = tap_more c.loop-line.invariant c.in-Some.ensures _ _ (ta
 
 pub returns : goal.returns
 returns c =
-    let e = c.in-default.ensures in
+    let e = c.in_default.ensures in
     let r = c.loop-line.invariant.reading in
     fault_as _ _ _ _ _ c.missing.ensures.refusal (c.missing.ensures.line ∙ ap (λ n. n + 1) (ap (λ (l : LineReader). l.lines) e.same ∙ r.numbered))
     (missing_line r (subst (λ t. length t ≤ c.loop-line.lines.at) r.text_is e.end) (open_end c.loop-line.invariant))

@@ -1,4 +1,4 @@
-use Rattle.std.proofs.Common.{◌≡◌, ◌+◌, ◌≤◌, length, sym, refl, ap, ◌∙◌, subst, arith}
+use Rattle.std.proofs.Common.{◌+◌, ◌≤◌, length, refl, ap, ◌∙◌, subst, arith}
 use Rattle.lines.specs.declared.reader.LineReader.{LineReader}
 use Rattle.sheet.proofs.Counting.{units_open}
 use Rattle.reader.proofs.Reading.{wrong_line, missing_line, one_line, fault_as}
@@ -9,9 +9,9 @@ use Rattle.reader.proofs.phases.read_units.Goals as goal
 pub loop-next-init : goal.loop-next-init
 loop-next-init c = record { reading = c.requires.reading; long = c.requires.long; placed = λ i h. absurd (omega arith); spare = λ i h. refl }
 
-pub returns-in-default : goal.returns-in-default
-returns-in-default c =
-    let e = c.in-default.ensures in
+pub returns-in_default : goal.returns-in_default
+returns-in_default c =
+    let e = c.in_default.ensures in
     let r = c.loop-next.invariant.reading in
     fault_as _ _ _ _ _ c.missing.ensures.refusal (c.missing.ensures.line ∙ ap (λ n. n + 1) (ap (λ (l : LineReader). l.lines) e.same ∙ r.numbered))
     (missing_line r (subst (λ t. length t ≤ c.loop-next.lines.at) r.text_is e.end) (units_open c.args.count c.loop-next.units c.loop-next.next))

@@ -1,4 +1,4 @@
-use Rattle.std.proofs.Common.{◌≡◌, ℕ, List, Ok, Err, Result, sym, refl, ap, ◌∙◌, subst}
+use Rattle.std.proofs.Common.{◌≡◌, ℕ, List, Ok, Err, sym, refl, ◌∙◌}
 use Rattle.frames.specs.Faults.{Fault}
 use Rattle.frames.proofs.OneFault.{one_fault}
 use Rattle.sheet.specs.Texts.{written}

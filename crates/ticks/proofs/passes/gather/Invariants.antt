@@ -1,5 +1,3 @@
-use Rattle.std.proofs.Common.{◌≡◌, ◌≤◌, length}
-use Rattle.net.specs.Limits.{most_units}
 use Rattle.ticks.specs.Passes.{Gathered}
 use Rattle.ticks.specs.Ticks.{AllAccept}
 use Rattle.ticks.proofs.passes.gather.Given as goal

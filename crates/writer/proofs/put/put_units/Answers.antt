@@ -1,4 +1,4 @@
-use Rattle.std.proofs.Common.{◌≡◌, ℕ, ◌+◌, ◌<◌, ◌≤◌, [], ◌∷◌, ◌++◌, length, get_or, take, sym, refl, ap, ◌∙◌, subst, add-zero, arith}
+use Rattle.std.proofs.Common.{◌≡◌, ◌+◌, [], ◌∷◌, ◌++◌, length, get_or, sym, ap, ◌∙◌, subst, add-zero, arith}
 use Rattle.std.proofs.lemmas.List.{get_or_default, take_all}
 use Rattle.std.proofs.lemmas.List.Sums.{sum_by_more, sum_by-take-le}
 use Rattle.buffer.specs.Puts.{Put}
@@ -12,18 +12,18 @@ use Rattle.writer.proofs.put.put_units.Goals as goal
 pub loop-u-init : goal.loop-u-init
 loop-u-init c = (sym (add-zero c.args.at), λ k blank p. p)
 
-pub put-unit-end-requires : goal.put-unit-end-requires
-put-unit-end-requires c =
+pub put_unit-end-requires : goal.put_unit-end-requires
+put_unit-end-requires c =
     omega (arith, c.loop-u.invariant.0, sum_by_more unit_size c.args.units.now c.loop-u.u no_unit (omega arith), sum_by-take-le unit_size c.args.units.now (c.loop-u.u + 1))
 
 pub loop-u-preserved : goal.loop-u-preserved
 loop-u-preserved c =
     let us = c.args.units.now in
     let u = c.loop-u.u in
-    let p = c.put-unit-end.ensures in
+    let p = c.put_unit-end.ensures in
     let same = get_or_default us u no_unit blank_unit (omega arith) in (
       omega (arith, c.loop-u.invariant.0, unit_end u (get_or us u no_unit) _ _ _ _ p, sum_by_more unit_size us u no_unit (omega arith)),
-      λ k blank q. unit_text_more k us u blank _ _ _ _ (c.loop-u.invariant.1 k blank q) (subst (λ (x : UnitFigures). Put c.loop-u.end (line (unit_frame u x) ++ 10 ∷ []) c.loop-u.buf c.put-unit-end.new.buf c.put-unit-end.result) same p),
+      λ k blank q. unit_text_more k us u blank _ _ _ _ (c.loop-u.invariant.1 k blank q) (subst (λ (x : UnitFigures). Put c.loop-u.end (line (unit_frame u x) ++ 10 ∷ []) c.loop-u.buf c.put_unit-end.new.buf c.put_unit-end.result) same p),
     )
 
 pub returns : goal.returns

@@ -1,4 +1,4 @@
-use Rattle.std.proofs.Common.{◌≡◌, ℕ, ◌+◌, ◌*◌, List, take}
+use Rattle.std.proofs.Common.{◌≡◌, ℕ, ◌+◌, List, take}
 use Rattle.buffer.specs.Puts.{Put}
 use Rattle.frames.specs.Frames.{text}
 use Rattle.sheet.specs.Patches.{unit_frames}

@@ -1,5 +1,5 @@
 use Rattle.std.proofs.Common.{◌≡◌, ℤ, pos, ◌+ℤ◌, nat_abs, sym, subst, arith, w64, to_z, of_z}
-use Rattle.std.proofs.lemmas.Int.{ints, to_z-of_z}
+use Rattle.std.proofs.lemmas.Int.{ints}
 use Rattle.unit.specs.Pulses.{value}
 use Rattle.unit.specs.Solutions.{OnlySolution}
 use Rattle.layers.proofs.divider.steps.counted.Goals as goal

@@ -1,4 +1,4 @@
-use Rattle.std.proofs.Common.{ℕ, ◌<◌, Bool, T, sym, refl, subst, arith}
+use Rattle.std.proofs.Common.{ℕ, ◌<◌, T, sym, refl, subst, arith}
 use Rattle.std.proofs.lemmas.Bool.Decides.{not_from_Decides}
 use Rattle.wires.specs.Sources.{there}
 use Rattle.wires.specs.declared.tap.Tap.{Tap}
@@ -10,11 +10,11 @@ use Rattle.machine.proofs.job.OpenJob.plug.Goals as goal
 pub returns-then-not-matches : goal.returns-then-not-matches
 returns-then-not-matches g c = (other (not_from_Decides _ c.matches.ensures c.if-not-matches.true), refl)
 
-pub returns-in-default : goal.returns-in-default
-returns-in-default g c = (for_fault (c.matches.ensures.0 c.if-not-matches.false) (no_sign c.in-default.ensures), refl)
+pub returns-in_default : goal.returns-in_default
+returns-in_default g c = (for_fault (c.matches.ensures.0 c.if-not-matches.false) (no_sign c.in_default.ensures), refl)
 
-pub returns-in-default-of : goal.returns-in-default-of
-returns-in-default-of g c = (for_fault (c.matches.ensures.0 c.if-not-matches.false) (no_source c.in-Some.sign c.in-Some.ensures c.in-default-of.ensures), refl)
+pub returns-in_default-of : goal.returns-in_default-of
+returns-in_default-of g c = (for_fault (c.matches.ensures.0 c.if-not-matches.false) (no_source c.in-Some.sign c.in-Some.ensures c.in_default-of.ensures), refl)
 
 pub returns-then-unit-self : goal.returns-then-unit-self
 returns-then-unit-self g c =
@@ -30,7 +30,7 @@ store-requires g c =
     let belongs = c.matches.ensures.0 c.if-not-matches.false in
     let source = c.in-Some-of.ensures in
     let is-there : T (there n.count c.in-Some-of.source) = subst (λ (k : ℕ). T (there k c.in-Some-of.source)) (sym belongs.count) (subst T (sym source.0) tt) in
-    let s = with_tap_storable n c.args.input c.record.result (record { sign = c.in-Some.sign; source = c.in-Some-of.source }) c.in-Some-with-tap.record is-there (rw c.record.ensures (storable n i few)) c.in-Some-with-tap.ensures in
+    let s = with_tap_storable n c.args.input c.record.result (record { sign = c.in-Some.sign; source = c.in-Some-of.source }) c.in-Some-with_tap.record is-there (rw c.record.ensures (storable n i few)) c.in-Some-with_tap.ensures in
     record { there = few; net = s.net; work = s.work; wired = s.wired }
 
 pub returns-in-None : goal.returns-in-None

@@ -7,10 +7,10 @@ use Rattle.machine.proofs.job.SetJob.feed.Goals as goal
 pub returns-then-not-matches : goal.returns-then-not-matches
 returns-then-not-matches g c = (other (not_from_Decides _ c.matches.ensures c.if-not-matches.true), refl)
 
-pub returns-in-default : goal.returns-in-default
-returns-in-default g c =
+pub returns-in_default : goal.returns-in_default
+returns-in_default g c =
     let fits = c.ranges.value in
-    (for_fault (c.matches.ensures.0 c.if-not-matches.false) (no_feed (simp to_z-of_z at c.in-default.ensures)), refl)
+    (for_fault (c.matches.ensures.0 c.if-not-matches.false) (no_feed (simp to_z-of_z at c.in_default.ensures)), refl)
 
 pub returns-then-waits : goal.returns-then-waits
 returns-then-waits g c =

@@ -1,4 +1,4 @@
-use Rattle.std.proofs.Common.{◌≡◌, length, ap, ◌∙◌, rules}
+use Rattle.std.proofs.Common.{◌≡◌, length, ap, rules}
 use Rattle.unit.specs.Pulses.{value}
 use Rattle.net.proofs.Sums.{sum_of_four}
 use Rattle.net.proofs.net.Net.tally.Goals as goal
@@ -10,4 +10,4 @@ returns c =
     let b = ap value c.delivered-b.ensures in
     let e = ap value c.delivered-c.ensures in
     let d = ap value c.delivered-d.ensures in
-    (let s = c.of-four.ensures in let whole = sum_of_four c.args.self.now c.args.y four in cc)
+    (let s = c.of_four.ensures in let whole = sum_of_four c.args.self.now c.args.y four in cc)

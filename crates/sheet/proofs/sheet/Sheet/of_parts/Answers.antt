@@ -1,7 +1,16 @@
 use Rattle.std.proofs.Common.{rules}
 use Rattle.sheet.proofs.sheet.Sheet.of_parts.Goals as goal
 
-pub invariant-of-result : goal.invariant-of-result
-invariant-of-result c =
+pub invariant_of-result : goal.invariant_of-result
+invariant_of-result c =
     let p = c.requires in
-    (search rules, (search rules, (p.room, (∣ p.lawful ∣₁, (p.placed, (p.sourced, (p.spare_units, (p.spare_plugs, tt))))))))
+    record {
+      sixty_four = search rules;
+      room = search rules;
+      fits = p.room;
+      lawful = ∣ p.lawful ∣₁;
+      placed = p.placed;
+      sourced = p.sourced;
+      spare_units = p.spare_units;
+      spare_plugs = p.spare_plugs;
+    }

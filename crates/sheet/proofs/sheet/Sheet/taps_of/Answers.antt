@@ -1,4 +1,4 @@
-use Rattle.std.proofs.Common.{◌≡◌, ℕ, ◌+◌, ◌-◌, ◌<◌, ◌≤◌, List, length, take, drop, ap, ◌∙◌, subst, ⊎_elim, arith}
+use Rattle.std.proofs.Common.{ℕ, ◌+◌, ◌-◌, ◌≤◌, List, take, drop, ap, ◌∙◌, subst, ⊎_elim, arith}
 use Rattle.std.proofs.lemmas.Bool.{cases_lt}
 use Rattle.sheet.specs.Views.{FirstFrom, taps_of}
 use Rattle.sheet.specs.declared.parts.Plug.{Plug}
@@ -12,8 +12,8 @@ later ps u a b low high = ⊎_elim (λ lt. absurd (omega (arith, low.before b lt
 pub returns : goal.returns
 returns c =
     let s = c.args.self.now in
-    let a = c.first-from-start.result in
-    let b = c.first-from-end.result in
-    let low = subst (λ u. FirstFrom (taps_of s) u a) c.from.ensures (subst (λ ps. FirstFrom ps c.from.result a) c.taps-taps.ensures c.first-from-start.ensures) in
-    let high = subst (λ u. FirstFrom (taps_of s) (u + 1) b) c.from-2.ensures (subst (λ ps. FirstFrom ps (c.from-2.result + 1) b) c.taps-taps.ensures c.first-from-end.ensures) in
+    let a = c.first_from-start.result in
+    let b = c.first_from-end.result in
+    let low = subst (λ u. FirstFrom (taps_of s) u a) c.from.ensures (subst (λ ps. FirstFrom ps c.from.result a) c.taps-taps.ensures c.first_from-start.ensures) in
+    let high = subst (λ u. FirstFrom (taps_of s) (u + 1) b) c.from-2.ensures (subst (λ ps. FirstFrom ps (c.from-2.result + 1) b) c.taps-taps.ensures c.first_from-end.ensures) in
     ap (λ ps. take (b - a) (drop a ps)) c.taps-taps.ensures ∙ together s c.args.unit a b (later (taps_of s) c.args.unit a b low high) low high

@@ -1,4 +1,4 @@
-use Rattle.std.proofs.Common.{sym, arith}
+use Rattle.std.proofs.Common.{arith}
 use Rattle.std.proofs.lemmas.List.{get_or_default}
 use Rattle.sheet.proofs.Sheets.{few}
 use Rattle.sheet.proofs.sheet.Sheet.unit.Goals as goal

@@ -10,8 +10,8 @@ returns-then-modulus-eq0 g c =
     let law = divided_lawful d.divisor d.count _ d.counted (g.met.U.Unit.lawful d.below) in
     none_told _ law (sym c.modulus.ensures ∙ c.if-modulus-eq0.true)
 
-pub with-count-requires : goal.with-count-requires
-with-count-requires g c =
+pub with_count-requires : goal.with_count-requires
+with_count-requires g c =
     let d = c.args.self.now in
     let fits : SFits w64 c.residue.result = search rules in
     let a = adds d.divisor d.count (g.U.Unit.figures d.below) _ _ _ (g.met.U.Unit.lawful d.below) d.counted c.modulus.ensures c.if-modulus-eq0.false c.modulus-2.ensures c.residue.ensures in
@@ -21,6 +21,6 @@ pub returns : goal.returns
 returns g c =
     let d = c.args.self.now in
     let fits : SFits w64 c.residue.result = search rules in
-    let whole : SFits w64 c.with-count.result = search rules in
+    let whole : SFits w64 c.with_count.result = search rules in
     let a = adds d.divisor d.count (g.U.Unit.figures d.below) _ _ _ (g.met.U.Unit.lawful d.below) d.counted c.modulus.ensures c.if-modulus-eq0.false c.modulus-2.ensures c.residue.ensures in
-    simp to_z-of_z ((simp to_z-of_z at c.with-count.ensures) ∙ a.sum)
+    simp to_z-of_z ((simp to_z-of_z at c.with_count.ensures) ∙ a.sum)

@@ -5,4 +5,4 @@ pub returns : goal.returns
 returns g c =
     let t = c.args.self.now in
     let figures = g.U.Unit.figures in
-    rw c.turn-pulse.ensures (turned_moves t.sense (figures t.below) (figures c.step.new.self) c.args.x c.args.tally.value c.in-ok-pulse.pulse c.in-ok-pulse.ensures)
+    rw c.turn_pulse.ensures (turned_moves t.sense (figures t.below) (figures c.step.new.self) c.args.x c.args.tally.value c.in_ok-pulse.pulse c.in_ok-pulse.ensures)

@@ -7,11 +7,11 @@ use Rattle.makes.proofs.servo.steps.ServoUnit.step.Goals as goal
 pub returns : goal.returns
 returns c =
     let a = c.args.self.now in
-    let p = c.in-ok-position.position in
+    let p = c.in_ok-position.position in
     let fa : SFits w64 a.position = search rules in
     let fp : SFits w64 p = search rules in
     let fw : SFits w64 c.signum.result = search rules in
-    let h = c.in-ok-position.ensures in
+    let h = c.in_ok-position.ensures in
     let band = c.renew-pulse.ensures.solves.band in
     let none : c.renew-pulse.result.1 ≡ pos 0 = omega (arith, ints) in
     let weight = simp to_z-of_z at c.signum.ensures.value in
