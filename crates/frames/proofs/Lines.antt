@@ -1,6 +1,6 @@
 -- A frame is known by its line, and a line by its text.
 use Rattle.std.proofs.Common.{◌≡◌, ℕ, suc, ◌+◌, ◌≤◌, cond, eqb, List, [], ◌∷◌, ◌++◌, length, get_or, take, drop, sum, sym, refl, ap, ◌∙◌, subst, ⊎_elim, arith, length-append}
-use Rattle.std.specs.List.{AllByRecursion as All}
+use Rattle.std.specs.List.{AllByRecursion}
 use Rattle.std.proofs.ByRecursion.{All-get_or, All-append, All-weaker}
 use Rattle.std.proofs.lemmas.List.{take_at, drop_at}
 use Rattle.std.proofs.lemmas.List.Sums.{sum_by-cons}
@@ -18,7 +18,7 @@ length-hexes [] (v ∷ vs) n = absurd (omega arith)
 length-hexes (w ∷ ws) [] n = absurd (omega arith)
 length-hexes (w ∷ ws) (v ∷ vs) n = length-append (hex w v) (hexes ws vs) ∙ (λ i. length-hex w v i + length-hexes ws vs (omega arith) i) ∙ sym (sum_by-cons (λ x. x) w ws)
 
-all_digits : (ws vs : List ℕ) → All IsDigit (hexes ws vs)
+all_digits : (ws vs : List ℕ) → AllByRecursion IsDigit (hexes ws vs)
 all_digits [] vs = tt
 all_digits (w ∷ ws) [] = tt
 all_digits (w ∷ ws) (v ∷ vs) = All-append IsDigit (hex w v) (hexes ws vs) (digits_hex w v) (all_digits ws vs)
@@ -90,7 +90,7 @@ as_many (last t q) = refl
 pub length-line : (f : Frame) → length (line f) ≡ suc (sum (widths f))
 length-line f = ap suc (length-hexes (widths f) (values f) (as_many f))
 
-none_bad : (ds : List ℕ) → All IsDigit ds → NoDigits ds → ⊥
+none_bad : (ds : List ℕ) → AllByRecursion IsDigit ds → NoDigits ds → ⊥
 none_bad ds h (i, k, n) = let d = All-get_or IsDigit ds i 0 k h in n d.0 d.1 d.2
 
 -- a frame's own digits are as many as its letter asks for, and digits
@@ -98,7 +98,7 @@ pub good_digits : (f g : Frame) (ds : List ℕ) → line f ≡ letter g ∷ ds �
 good_digits f g ds e bad =
     let w = same_widths f g (ap (λ x. get_or x 0 0) e) in
     let d : hexes (widths f) (values f) ≡ ds = ap (drop 1) e in
-    ⊎_elim (λ n. n (sym (ap length d) ∙ length-hexes (widths f) (values f) (as_many f) ∙ ap sum w)) (none_bad ds (subst (All IsDigit) d (all_digits (widths f) (values f)))) bad
+    ⊎_elim (λ n. n (sym (ap length d) ∙ length-hexes (widths f) (values f) (as_many f) ∙ ap sum w)) (none_bad ds (subst (AllByRecursion IsDigit) d (all_digits (widths f) (values f)))) bad
 
 -- line feeds
 

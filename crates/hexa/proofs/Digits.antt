@@ -3,7 +3,7 @@ use Rattle.std.proofs.Common.{◌≡◌, ℕ, zero, suc, ◌+◌, ◌-◌, ◌*�
 use native.Mathlib.Nat.{pow-le-pow_right}
 use Rattle.std.proofs.lemmas.List.{length_push, same_from_push, drop-set}
 use Rattle.std.proofs.lemmas.Bool.Decides.{nat_tests}
-use Rattle.std.specs.List.{AllByRecursion as All}
+use Rattle.std.specs.List.{AllByRecursion}
 use Rattle.std.proofs.ByRecursion.{All-push}
 use Rattle.hexa.specs.Hex.{digit, hex, IsDigit}
 
@@ -57,7 +57,7 @@ digit_before buf at i v d h room e =
     let s : at + (i - 1) + 1 ≡ at + i = omega arith in
     rw (drop-set buf (at + (i - 1)) d (omega arith), s, e, hex_last i v h, append_assoc)
 
-pub digits_hex : (k v : ℕ) → All IsDigit (hex k v)
+pub digits_hex : (k v : ℕ) → AllByRecursion IsDigit (hex k v)
 unfolding hex
 digits_hex zero v = tt
 digits_hex (suc k) v = All-push IsDigit (hex k (v / 16)) _ (digits_hex k (v / 16)) (v % 16, omega arith, refl)

@@ -3,13 +3,13 @@
 #![tactic(auto)]
 
 ghost use Rattle.std.specs.Prelude.{◌≡◌, ◌+◌, ◌^◌, ◌<◌, ◌≤◌, ◌++◌, length, MatchBool, sum, MatchOption};
-ghost use Rattle.std.specs.List.{AllByRecursion as All};
+ghost use Rattle.std.specs.List.{AllByRecursion};
 ghost use Rattle.buffer.specs.Puts.{Put};
 ghost use Rattle.hexa.specs.Hex.{digit, hex, hexes, Digits, NoDigit, NoDigits, BadDigits, Writable};
 
 // The figures that the digits write, one for each width; none where there are too few or too many digits, or a byte is none.
 pub fn figures<const N: usize>(digits: &[u8], widths: [usize; N]) -> Option<[u32; N]>
-    requires { All (λ w. w ≤ 8) widths }
+    requires { AllByRecursion (λ w. w ≤ 8) widths }
     ensures { MatchOption result (BadDigits (sum widths.entry) digits.now) (λ vs. Writable widths.entry vs × (digits.now ≡ hexes widths.entry vs)) }
 {
     let mut values = [0; N];

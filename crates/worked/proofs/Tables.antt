@@ -2,7 +2,7 @@
 use Rattle.std.proofs.Common.{◌≡◌, ℕ, Bool, true, false, not, ◌&&◌, T, List, [], ◌∷◌, ℤ, pos, ◌+ℤ◌, ◌*ℤ◌, ◌≤ℤ◌, refl, arith}
 use lib.Signed.{le_z, lt_z}
 use Rattle.std.proofs.lemmas.Int.{ints}
-use Rattle.std.specs.List.{AllByRecursion as All}
+use Rattle.std.specs.List.{AllByRecursion}
 use Rattle.unit.proofs.Division.{only_solution}
 use Rattle.unit.proofs.Truth.{both, joined}
 use Rattle.unit.specs.Figures.{Constants, Figures, Inside, Moved}
@@ -89,11 +89,11 @@ all_holding : List Example → Bool
 all_holding [] = true
 all_holding (e ∷ es) = holding e && all_holding es
 
-each_holds : (es : List Example) → T (all_holding es) → All Holds es
+each_holds : (es : List Example) → T (all_holding es) → AllByRecursion Holds es
 unfolding all_holding
 each_holds [] t = tt
 each_holds (e ∷ es) t = let parts = both _ _ t in (holds e parts.0, each_holds es parts.1)
 
-pub all_hold : All Holds examples
+pub all_hold : AllByRecursion Holds examples
 unfolding all_holding holding growing moving standing solving
 all_hold = each_holds examples tt

@@ -2,13 +2,13 @@
 #![tactic(auto)]
 
 ghost use Rattle.std.specs.Prelude.{◌≡◌, length};
-ghost use Rattle.std.specs.List.{AllByRecursion as All};
+ghost use Rattle.std.specs.List.{AllByRecursion};
 ghost use Rattle.worked.specs.Examples.{examples, Holds};
 
 // How many examples there are; every one of them holds.
 pub fn worked_examples() -> usize
     ensures count { result ≡ length examples }
-    ensures hold { All Holds examples }
+    ensures hold { AllByRecursion Holds examples }
 {
     8
 }
