@@ -1,4 +1,4 @@
--- One unit of a rack: what its step and its answers say of the whole rack. The default u of `get_or` never matters,
+-- One unit of a rack: what its step and its answers say of the whole rack. The default u of `slice_index_or` never matters,
 -- since the place is there.
 use Rattle.std.specs.Prelude.{◌≡◌, ℕ, List, ℤ, ◌+ℤ◌, slice_index_or, slice_set}
 use Rattle.unit.specs.Figures.{Figures, Inside, Moved}
