@@ -1,1 +1,3 @@
+pub mod Dividing
 pub mod Telling
+pub mod Turning

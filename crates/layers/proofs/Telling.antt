@@ -4,7 +4,7 @@ use Rattle.unit.specs.Figures.{Figures, Lawful, told_number, told_modulus, told_
 use Rattle.unit.specs.Sizes.{largest}
 use Rattle.unit.proofs.Answers.{told, untold, told_or_not, told_residue_short}
 use Rattle.layers.specs.Dividers.{divided}
-use Rattle.layers.specs.Dividing.{times_least, room}
+use Rattle.layers.specs.Laws.{times_least, room}
 
 -- the product of what the unit below tells and the divisor, told
 pub told_product : (k c : ℕ) (f : Figures) → 1 ≤ k → (t : ℕ) → t ≡ told_modulus f → told_number (t * k) ≡ told_modulus (divided k c f)

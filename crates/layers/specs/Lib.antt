@@ -1,5 +1,4 @@
 pub mod Dividers
 pub mod Houses
+pub mod Laws
 pub mod Turns
-pub mod Dividing
-pub mod Turning

@@ -14,6 +14,7 @@ pub struct Divider<U> {
     ghost counted: { count < divisor },
 }
 
+// `Copy` asks for a `Clone`, and none can be derived beside a ghost field.
 impl<U: Copy> Clone for Divider<U> {
     ghost is_clone = { λ d e. e ≡ d };
 

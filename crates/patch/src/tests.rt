@@ -19,7 +19,7 @@ fn no_frame(rt: &impl Abort, text: &[u8], line: usize, refusal: Refusal) -> Resu
         Err(found) => {
             assert_eq!(rt; found, refusal);
             Ok(())
-        },
+        }
     }
 }
 

@@ -1,5 +1,5 @@
 -- How far a reader has come in a text, and how each phase ends: at its last frame, or at the text's first fault.
-use Rattle.std.specs.Prelude.{◌≡◌, ℕ, ◌<◌, ◌≤◌, true, List, [], ◌∷◌, ◌++◌, length, get_or, drop, Ok, Err, Result, slice_index_or, unsigned_abs}
+use Rattle.std.specs.Prelude.{◌≡◌, ℕ, ◌<◌, ◌≤◌, true, List, [], ◌∷◌, ◌++◌, length, drop, Ok, Err, Result, slice_index_or, unsigned_abs}
 use Rattle.frames.specs.Faults.{Extent, Fault}
 use Rattle.frames.specs.Frames.{Frame, count, last, text}
 use Rattle.frames.specs.Rules.{Lawful}
@@ -29,7 +29,7 @@ CountRead t (Err f) later = Fault t f.refusal f.line
 pub record Units (t : List ℕ) (c k : ℕ) (before us : List UnitFigures) (later : LineReader) : Type 0 where
   pub reading : Reading later t (unit_frames c us k)
   pub long : length us ≡ 64
-  pub placed : (i : ℕ) → i < k → unsigned_abs (get_or us i blank_unit).position ≤ largest_position
+  pub placed : (i : ℕ) → i < k → unsigned_abs (slice_index_or us i blank_unit).position ≤ largest_position
   pub spare : (i : ℕ) → k ≤ i → slice_index_or us i blank_unit ≡ slice_index_or before i blank_unit
 
 abbrev pub UnitsRead : {X : Type 0} → List ℕ → ℕ → List UnitFigures → Result X TextFault → List UnitFigures → LineReader → Type 0
@@ -39,7 +39,7 @@ UnitsRead t c before (Err f) us later = Fault t f.refusal f.line
 -- n taps are read into ps, and the places after them are as they were
 pub record Plugs (c n : ℕ) (before ps : List Plug) : Type 0 where
   pub long : length ps ≡ 320
-  pub sourced : (i : ℕ) → i < n → there c (get_or ps i blank_plug).tap.source ≡ true
+  pub sourced : (i : ℕ) → i < n → there c (slice_index_or ps i blank_plug).tap.source ≡ true
   pub spare : (i : ℕ) → n ≤ i → slice_index_or ps i blank_plug ≡ slice_index_or before i blank_plug
 
 -- .. below the frames of the units, and then the last frame

@@ -1,5 +1,5 @@
 -- The frames that a patch is written in, from the bottom one up.
-use Rattle.std.specs.Prelude.{◌≡◌, ℕ, zero, suc, ◌<◌, ◌≤◌, true, List, [], ◌∷◌, get_or, pos, slice_index_or, unsigned_abs}
+use Rattle.std.specs.Prelude.{◌≡◌, ℕ, zero, suc, ◌<◌, ◌≤◌, true, List, [], ◌∷◌, pos, slice_index_or, unsigned_abs}
 use Rattle.std.specs.Int.{w32}
 use Rattle.std.proofs.Common.{of_z}
 use Rattle.frames.specs.Frames.{Frame, count, integrator, servo, tap, last}
@@ -57,7 +57,7 @@ frames c us n ps ticks step = last ticks step ∷ tap_frames (unit_frames c us c
 pub record LawfulPatch (c : ℕ) (us : List UnitFigures) (n : ℕ) (ps : List Plug) (ticks step : ℕ) : Type 0 where
   pub room : n ≤ 320
   pub lawful : Lawful (frames c us n ps ticks step)
-  pub placed : (i : ℕ) → i < c → unsigned_abs (get_or us i blank_unit).position ≤ largest_position
-  pub sourced : (i : ℕ) → i < n → there c (get_or ps i blank_plug).tap.source ≡ true
+  pub placed : (i : ℕ) → i < c → unsigned_abs (slice_index_or us i blank_unit).position ≤ largest_position
+  pub sourced : (i : ℕ) → i < n → there c (slice_index_or ps i blank_plug).tap.source ≡ true
   pub spare_units : (i : ℕ) → c ≤ i → slice_index_or us i blank_unit ≡ blank_unit
   pub spare_plugs : (i : ℕ) → n ≤ i → slice_index_or ps i blank_plug ≡ blank_plug

@@ -1,5 +1,5 @@
 -- What a sheet tells of its units and taps.
-use Rattle.std.specs.Prelude.{◌≡◌, ℕ, ◌<◌, ◌≤◌, List, length, get_or, take, replicate, Some, None, filter, Option, nat_eq, slice_index_or}
+use Rattle.std.specs.Prelude.{◌≡◌, ℕ, ◌<◌, ◌≤◌, List, length, take, replicate, Some, None, filter, Option, nat_eq, slice_index_or}
 use Rattle.sheet.specs.Patches.{blank_unit, blank_plug}
 use Rattle.sheet.specs.declared.parts.Plug.{Plug}
 use Rattle.sheet.specs.declared.parts.UnitFigures.{UnitFigures}
@@ -34,5 +34,5 @@ unit_taps u s = filter (λ p. nat_eq p.unit u) (taps_of s)
 -- the first place of a tap of unit u or a later one
 pub record FirstFrom (ps : List Plug) (u r : ℕ) : Type 0 where
   pub within : r ≤ length ps
-  pub before : (k : ℕ) → k < r → (get_or ps k blank_plug).unit < u
-  pub at : r < length ps → u ≤ (get_or ps r blank_plug).unit
+  pub before : (k : ℕ) → k < r → (slice_index_or ps k blank_plug).unit < u
+  pub at : r < length ps → u ≤ (slice_index_or ps r blank_plug).unit

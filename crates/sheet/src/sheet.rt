@@ -1,4 +1,4 @@
-ghost use Rattle.std.specs.Prelude.{◌≡◌, ℕ, ◌<◌, ◌≤◌, true, length, get_or, slice_index_or, unsigned_abs};
+ghost use Rattle.std.specs.Prelude.{◌≡◌, ℕ, ◌<◌, ◌≤◌, true, length, slice_index_or, unsigned_abs};
 ghost use Rattle.frames.specs.Rules.{Lawful};
 ghost use Rattle.wires.specs.Sources.{there};
 ghost use Rattle.sheet.specs.Patches.{frames, largest_position, blank_unit, blank_plug};
@@ -21,8 +21,8 @@ pub struct Sheet {
     ghost room: { length plugs ≡ 320 },
     ghost fits: { taps ≤ 320 },
     ghost lawful: { ∥ Lawful (frames count units taps plugs ticks step) ∥₁ },
-    ghost placed: { (i : ℕ) → i < count → unsigned_abs (get_or units i blank_unit).position ≤ largest_position },
-    ghost sourced: { (i : ℕ) → i < taps → there count (get_or plugs i blank_plug).tap.source ≡ true },
+    ghost placed: { (i : ℕ) → i < count → unsigned_abs (slice_index_or units i blank_unit).position ≤ largest_position },
+    ghost sourced: { (i : ℕ) → i < taps → there count (slice_index_or plugs i blank_plug).tap.source ≡ true },
     ghost spare_units: { (i : ℕ) → count ≤ i → slice_index_or units i blank_unit ≡ blank_unit },
     ghost spare_plugs: { (i : ℕ) → taps ≤ i → slice_index_or plugs i blank_plug ≡ blank_plug },
 }

@@ -1,5 +1,5 @@
 -- The two passes of a tick: the inputs of all units from the lines as they stand, then the steps with these inputs.
-use Rattle.std.specs.Prelude.{◌≡◌, ℕ, ◌+◌, ◌<◌, ◌≤◌, List, length, get_or, slice_index_or, slice_set}
+use Rattle.std.specs.Prelude.{◌≡◌, ℕ, ◌+◌, ◌<◌, ◌≤◌, List, length, slice_index_or, slice_set}
 use Rattle.unit.specs.Figures.{Figures}
 use Rattle.ticks.specs.Racks.{at_place}
 use Rattle.net.specs.Changes.{Stored}
@@ -33,6 +33,6 @@ pub record Stepping {U : Type 0} (figures : U → Figures) (us : List U) (n : Ne
   pub ticks : m.ticks ≡ n.ticks
   pub outside : m.outside ≡ n.outside
   pub places : length vs ≡ length us
-  pub each : (i : ℕ) → i < k → (u : U) (d : Inputs) → Advanced (get_or inputs i d).x (get_or inputs i d).tally.value (at_place figures us i u) (at_place figures vs i u) (record_at n.table.records i) (record_at m.table.records i)
+  pub each : (i : ℕ) → i < k → (u : U) (d : Inputs) → Advanced (slice_index_or inputs i d).x (slice_index_or inputs i d).tally.value (at_place figures us i u) (at_place figures vs i u) (record_at n.table.records i) (record_at m.table.records i)
   pub units_beyond : (i : ℕ) → k ≤ i → (u : U) → slice_index_or vs i u ≡ slice_index_or us i u
   pub records_beyond : (i : ℕ) → k ≤ i → record_at m.table.records i ≡ record_at n.table.records i

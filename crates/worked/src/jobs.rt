@@ -149,7 +149,7 @@ fn no_units(rt: HostRuntime) -> Result<(), Fail> {
         Err(back) => {
             assert_eq!(rt; back.refusal, Refusal::NoUnits);
             Ok(())
-        },
+        }
     }
 }
 
@@ -175,6 +175,6 @@ fn modulus_untold(rt: HostRuntime) -> Result<(), Fail> {
         Err(back) => {
             assert_eq!(rt; back.refusal, Refusal::ModulusUntold { unit: 1 });
             Ok(())
-        },
+        }
     }
 }

@@ -47,6 +47,26 @@ fn inverted(rt: HostRuntime) -> Result<(), Fail> {
     Ok(())
 }
 
+// A clone has the figures of its source, the divider's count among them, and goes its own way from there.
+#[test]
+fn cloned(rt: HostRuntime) -> Result<(), Fail> {
+    let mut unit = house_servo(5, -5, 3, Sense::Inverted)?;
+    assert_eq!(rt;
+        unit.step(Pulse::Plus, Tally::of(Pulse::Zero)),
+        Some(Pulse::Plus)
+    );
+    let mut clone = unit.clone()?;
+    assert_eq!(rt; clone, unit);
+    assert_eq!(rt; clone.residue(), -2);
+    assert_eq!(rt;
+        clone.step(Pulse::Plus, Tally::of(Pulse::Zero)),
+        Some(Pulse::Zero)
+    );
+    assert_eq!(rt; clone.residue(), -1);
+    assert_eq!(rt; unit.residue(), -2);
+    Ok(())
+}
+
 // A servo behind a divider by 3 emits every third pulse.
 #[test]
 fn divided(rt: HostRuntime) -> Result<(), Fail> {
@@ -97,6 +117,6 @@ fn refused(rt: HostRuntime) -> Result<(), Fail> {
         Err(back) => {
             assert_eq!(rt; back.unit.position(), 3);
             Ok(())
-        },
+        }
     }
 }

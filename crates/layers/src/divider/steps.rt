@@ -1,9 +1,9 @@
 ghost use Rattle.std.specs.Prelude.{◌≡◌, ◌*◌, ◌<◌, ◌≤◌, pos, ◌+ℤ◌, unsigned_abs};
 ghost use Rattle.layers.specs.Dividers.{divided, Counted};
+ghost use Rattle.layers.specs.Laws.{divided_lawful};
 ghost use Rattle.unit.specs.Figures.{told_number};
 ghost use Rattle.unit.specs.Making.{Enclosed};
 ghost use Rattle.unit.specs.Sizes.{largest};
-ghost use Rattle.layers.specs.Dividing.{divided_lawful};
 
 use crate::divider::Divider;
 use makes::band::divide;

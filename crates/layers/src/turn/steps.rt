@@ -1,8 +1,8 @@
 ghost use Rattle.std.specs.Prelude.{◌≡◌, ◌≢◌};
+ghost use Rattle.layers.specs.Laws.{turned_lawful};
 ghost use Rattle.layers.specs.Turns.{turned, figure_of};
 ghost use Rattle.layers.specs.declared.turn.Sense.{Sense};
 ghost use Rattle.unit.specs.Making.{Enclosed};
-ghost use Rattle.layers.specs.Turning.{turned_lawful};
 
 use crate::turn::{Sense, Turn};
 use unit::pulse::Pulse;

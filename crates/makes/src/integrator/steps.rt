@@ -2,7 +2,7 @@ ghost use Rattle.std.specs.Prelude.{◌≡◌, ◌^◌, ◌≤◌};
 ghost use Rattle.makes.specs.Limits.{longest};
 ghost use Rattle.makes.specs.Integrators.{meaning, integrator, Allowed};
 ghost use Rattle.unit.specs.Making.{Made};
-ghost use Rattle.std.proofs.Common.{rules, arith};
+ghost use Rattle.std.proofs.Common.{rules};
 
 use crate::band::renew;
 use crate::integrator::Integrator;
@@ -44,7 +44,7 @@ fn modulus_of(length: u8) -> u32
 impl Unit for Integrator {
     ghost figures = { meaning };
 
-    ghost lawful = { first_of (Prim.search rules, Prim.grind (arith, Self.row.coded.inj)) };
+    ghost lawful = { Prim.search rules };
 
     fn step(&mut self, x: Pulse, tally: Tally) -> Option<Pulse> {
         let modulus = modulus_of(self.length);

@@ -1,6 +1,6 @@
 ghost use Rattle.makes.specs.Servos.{meaning, servo, Allowed};
 ghost use Rattle.unit.specs.Making.{Made};
-ghost use Rattle.std.proofs.Common.{rules, arith};
+ghost use Rattle.std.proofs.Common.{rules};
 
 use crate::band::renew;
 use crate::range::moved;
@@ -31,7 +31,7 @@ impl Servo {
 impl Unit for Servo {
     ghost figures = { meaning };
 
-    ghost lawful = { first_of (Prim.search rules, Prim.grind (arith, Self.row.coded.inj)) };
+    ghost lawful = { Prim.search rules };
 
     fn step(&mut self, x: Pulse, tally: Tally) -> Option<Pulse> {
         let position = moved(self.position, tally, self.limit)?;

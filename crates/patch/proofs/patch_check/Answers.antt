@@ -1,4 +1,4 @@
-use Rattle.std.proofs.Common.{◌≡◌, refl, ◌∙◌, inl, inr}
+use Rattle.std.proofs.Common.{refl, ◌∙◌, inl, inr}
 use Rattle.frames.proofs.OneFault.{one_fault}
 use Rattle.sheet.proofs.Exactness.{no_sheet_fault}
 use Rattle.patch.specs.Verdicts.{packed}

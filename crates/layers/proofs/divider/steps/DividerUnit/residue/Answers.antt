@@ -1,6 +1,6 @@
 use Rattle.std.proofs.Common.{sym, ◌∙◌, w64, SFits, rules}
 use Rattle.std.proofs.lemmas.Int.{to_z-of_z}
-use Rattle.layers.specs.Dividing.{divided_lawful}
+use Rattle.layers.specs.Laws.{divided_lawful}
 use Rattle.layers.proofs.Telling.{adds, none_told}
 use Rattle.layers.proofs.divider.steps.DividerUnit.residue.Goals as goal
 

@@ -1,4 +1,4 @@
-use Rattle.layers.specs.Dividing.{divided_moves, same_divider}
+use Rattle.layers.proofs.Dividing.{divided_moves, same_divider}
 use Rattle.layers.proofs.divider.steps.DividerUnit.step.Goals as goal
 
 pub returns-in_err-pulse : goal.returns-in_err-pulse

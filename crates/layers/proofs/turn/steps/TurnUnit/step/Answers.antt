@@ -1,4 +1,4 @@
-use Rattle.layers.specs.Turning.{turned_moves}
+use Rattle.layers.proofs.Turning.{turned_moves}
 use Rattle.layers.proofs.turn.steps.TurnUnit.step.Goals as goal
 
 pub returns : goal.returns

@@ -1,40 +1,18 @@
--- An upright or inverted unit is lawful, and steps as the unit below does.
-use Rattle.std.specs.Prelude.{ℕ, ◌≤◌, ℤ, pos, ◌+ℤ◌, ◌*ℤ◌, neg_ℤ, unsigned_abs}
+-- An upright or inverted unit steps as the unit below does.
+use Rattle.std.specs.Prelude.{ℕ, ℤ, pos, ◌+ℤ◌, ◌*ℤ◌, neg_ℤ}
 use Rattle.std.proofs.Common.{ap, arith}
 use Rattle.std.proofs.lemmas.Int.{ints}
-use Rattle.unit.specs.Figures.{Constants, Figures, Lawful, Moved}
+use Rattle.unit.specs.Figures.{Constants, Figures, Moved}
 use Rattle.unit.specs.Pulses.{value}
-use Rattle.unit.specs.Solutions.{InBand, Solves}
+use Rattle.unit.specs.Solutions.{Solves}
 use Rattle.unit.specs.declared.pulse.Pulse.{Pulse}
 use Rattle.unit.proofs.Division.{only_solution}
 use Rattle.unit.proofs.Products.{times_neg, neg_times}
 use Rattle.unit.proofs.Signs.{opposite_value}
+use Rattle.layers.specs.Laws.{mirrored}
 use Rattle.layers.specs.Turns.{turned, turned_pulse}
 use Rattle.layers.specs.declared.turn.Sense.{Sense}
 use Rattle.layers.specs.declared.turn.Sense.TheVariants.{Upright, Inverted}
-
-same_size : (n : ℕ) (w : ℤ) → unsigned_abs w ≤ n → unsigned_abs (neg_ℤ w) ≤ n
-same_size n w h = omega (arith, ints)
-
-mirrored : (m : ℕ) (low r : ℤ) → InBand m low r → InBand m (neg_ℤ ((low +ℤ pos m) +ℤ neg_ℤ (pos 1))) (neg_ℤ r)
-mirrored m low r b = let above = b.above in let below = b.below in record { above = omega (arith, ints); below = omega (arith, ints) }
-
-pub turned_lawful : (s : Sense) (f : Figures) → Lawful f → Lawful (turned s f)
-turned_lawful Upright f law = law
-turned_lawful Inverted f law =
-    let above = law.low_above in
-    let below = law.low_below in
-    record {
-      modulus = law.modulus;
-      low_above = omega (arith, ints);
-      low_below = omega (arith, ints);
-      bottom = law.bottom;
-      top = law.top;
-      light = λ p i. same_size _ (f.constants.weight p) (law.light p i);
-      short = λ p i. same_size _ (f.constants.weight p) (law.short p i);
-      position = law.position;
-      residue = mirrored _ _ _ law.residue;
-    }
 
 mirrored_solution : (m : ℕ) (low r w x z q : ℤ) → Solves m low (r +ℤ (w *ℤ x)) z q → Solves m (neg_ℤ ((low +ℤ pos m) +ℤ neg_ℤ (pos 1))) (neg_ℤ r +ℤ (neg_ℤ w *ℤ x)) (neg_ℤ z) (neg_ℤ q)
 mirrored_solution m low r w x z q s =

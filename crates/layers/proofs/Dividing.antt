@@ -1,52 +1,18 @@
--- A unit behind a divider is lawful, steps as its count and the unit below do, and tells its modulus and residue.
-use Rattle.std.specs.Prelude.{◌≡◌, ℕ, ◌+◌, ◌*◌, ◌<◌, ◌≤◌, ℤ, pos, ◌+ℤ◌, ◌*ℤ◌, neg_ℤ, unsigned_abs}
-use Rattle.std.proofs.Common.{sym, ap, ◌∙◌, mul-add, mul_comm, mul-one, mul-zero, arith}
+-- A unit behind a divider steps as its count and the unit below do.
+use Rattle.std.specs.Prelude.{◌≡◌, ℕ, ◌*◌, ◌<◌, ◌≤◌, ℤ, pos, ◌+ℤ◌, ◌*ℤ◌, neg_ℤ}
+use Rattle.std.proofs.Common.{sym, ap, ◌∙◌, mul_comm, mul-one, mul-zero, arith}
 use Rattle.std.proofs.Math.Bridge.{le_prop}
-use Rattle.std.proofs.lemmas.Nat.{mul-le}
 use Rattle.std.proofs.lemmas.Int.{ints}
-use Rattle.unit.specs.Figures.{Constants, Figures, Lawful, Moved}
+use Rattle.unit.specs.Figures.{Constants, Figures, Moved}
 use Rattle.unit.specs.Pulses.{value}
-use Rattle.unit.specs.Solutions.{InBand, Solves}
+use Rattle.unit.specs.Solutions.{Solves}
 use Rattle.unit.specs.declared.pulse.Pulse.{Pulse}
 use Rattle.unit.specs.declared.pulse.Pulse.TheVariants.{Minus, Zero, Plus}
 use Rattle.unit.proofs.Division.{only_solution}
 use Rattle.unit.proofs.Products.{times_neg, times_plus}
 use Rattle.layers.specs.declared.divider.Divider.{Divider}
+use Rattle.layers.specs.Laws.{stacked}
 use Rattle.layers.specs.Dividers.{divided, divided_constants}
-
-pub times_least : (k m : ℕ) → 1 ≤ k → m ≤ k * m
-times_least k m h = omega (arith, mul-le 1 m k m h (omega arith))
-
--- one more count takes one more modulus below, and there is room for k of them
-pub room : (k m c : ℕ) → c < k → m * c + m ≤ k * m
-room k m c h = omega (arith, mul-le m (c + 1) m k (omega arith) (omega arith), mul-add m c 1, mul_comm m k)
-
-wider : (m n : ℕ) (w : ℤ) → m ≤ n → unsigned_abs w ≤ m → unsigned_abs w ≤ n
-wider m n w h l = omega arith
-
-stacked : (k m c : ℕ) (low r : ℤ) → c < k → InBand m low r → InBand (k * m) low (r +ℤ pos (m * c))
-stacked k m c low r h b =
-    let above = b.above in
-    let below = b.below in
-    let most = room k m c h in
-    record { above = omega (arith, ints); below = omega (arith, ints) }
-
-pub divided_lawful : (k c : ℕ) (f : Figures) → c < k → Lawful f → Lawful (divided k c f)
-divided_lawful k c f h law =
-    let least = times_least k f.constants.modulus (omega arith) in
-    let modulus = law.modulus in
-    let above = law.low_above in
-    record {
-      modulus = omega arith;
-      low_above = omega (arith, ints);
-      low_below = law.low_below;
-      bottom = law.bottom;
-      top = law.top;
-      light = λ p i. wider f.constants.modulus _ (f.constants.weight p) least (law.light p i);
-      short = law.short;
-      position = law.position;
-      residue = stacked k f.constants.modulus c _ _ h law.residue;
-    }
 
 swapped : (k m : ℕ) → k * m * 1 ≡ m * (k * 1)
 swapped k m = simp mul-one (mul_comm k m)
