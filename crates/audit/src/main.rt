@@ -2,26 +2,20 @@
 // itself: modulus times net pulses, plus residue less start residue.
 #![tactic(auto)]
 
-use anyhow::anyhow;
 use layers::house::{HouseUnit, house_integrator, house_servo};
 use layers::turn::Sense;
+use machine::job::SetJob;
 use machine::job::open::open;
-use machine::job::{OpenJob, SetJob};
 use net::net::Net;
 use unit::refusal::Refusal;
 use unit::unit::Unit;
-use wires::tap::Input;
+use wires::source::Source;
+use wires::tap::{Input, Sign};
 
-const PLUS: u8 = 0;
-
-const MINUS: u8 = 1;
-
-const LINE_0: u8 = 0x40;
-
-const CLOCK: u8 = 0x50;
+type Rack = [HouseUnit; 3];
 
 // An integrator, a divided servo and an inverted integrator.
-fn units() -> Result<[HouseUnit; 3], Refusal> {
+fn units() -> Result<Rack, Refusal> {
     Ok([
         house_integrator(3, 2, 0, 1, Sense::Upright)?,
         house_servo(5, 1, 2, Sense::Upright)?,
@@ -29,56 +23,52 @@ fn units() -> Result<[HouseUnit; 3], Refusal> {
     ])
 }
 
-fn wired(rack: &mut [HouseUnit; 3]) -> Result<(OpenJob, Net), Refusal> {
+fn wired(rack: &mut Rack) -> Result<(SetJob, Net), Refusal> {
+    let plus = u8::from(Sign::Plus);
+    let minus = u8::from(Sign::Minus);
+    let clock = Source::Clock.code();
     let (mut job, mut net) = open();
     for unit in units()? {
-        if let Err(back) = job.place(rack, &mut net, unit) {
-            return Err(back.refusal);
-        }
+        job.place(rack, &mut net, unit)?;
     }
-    job.plug(rack, &mut net, 0, Input::X, PLUS, CLOCK)?;
-    job.plug(rack, &mut net, 0, Input::Y, PLUS, LINE_0)?;
-    job.plug(rack, &mut net, 1, Input::X, MINUS, CLOCK)?;
-    job.plug(rack, &mut net, 1, Input::Y, PLUS, 0)?;
-    job.plug(rack, &mut net, 2, Input::X, PLUS, CLOCK)?;
-    job.plug(rack, &mut net, 2, Input::Y, MINUS, 1)?;
+    job.plug(rack, &mut net, 0, Input::X, plus, clock)?;
+    job.plug(rack, &mut net, 0, Input::Y, plus, Source::Outside(0).code())?;
+    job.plug(rack, &mut net, 1, Input::X, minus, clock)?;
+    job.plug(rack, &mut net, 1, Input::Y, plus, Source::Place(0).code())?;
+    job.plug(rack, &mut net, 2, Input::X, plus, clock)?;
+    job.plug(rack, &mut net, 2, Input::Y, minus, Source::Place(1).code())?;
+    let job = job.set(rack, &mut net)?;
     Ok((job, net))
 }
 
 fn say(rt: &HostRuntime, call: &str, answer: Result<(), Refusal>) -> anyhow::Result<()> {
     match answer {
-        Ok(()) => Ok(println!(rt; "{call}: accepted")?),
-        Err(refusal) => {
-            let number = refusal.number();
-            Ok(println!(rt; "{call}: refused {number}")?)
-        }
+        Ok(()) => println!(rt; "{call}: accepted")?,
+        Err(refusal) => println!(rt; "{call}: refused {}", u8::from(refusal))?,
     }
+    Ok(())
 }
 
 fn run_for(
     rt: &HostRuntime,
     job: &SetJob,
-    rack: &mut [HouseUnit; 3],
+    rack: &mut Rack,
     net: &mut Net,
     ticks: u32,
 ) -> anyhow::Result<()> {
     let ran = job.run(rack, net, ticks);
-    let made = ran.made;
     match ran.refusal {
-        None => Ok(println!(rt; "run {ticks}: made {made}")?),
-        Some(refusal) => {
-            let number = refusal.number();
-            Ok(println!(rt; "run {ticks}: made {made}, refused {number}")?)
-        }
+        None => println!(rt; "run {ticks}: made {}", ran.made)?,
+        Some(refusal) => println!(rt;
+            "run {ticks}: made {}, refused {}",
+            ran.made,
+            u8::from(refusal)
+        )?,
     }
+    Ok(())
 }
 
-fn calls(
-    rt: &HostRuntime,
-    job: &SetJob,
-    rack: &mut [HouseUnit; 3],
-    net: &mut Net,
-) -> anyhow::Result<()> {
+fn calls(rt: &HostRuntime, job: &SetJob, rack: &mut Rack, net: &mut Net) -> anyhow::Result<()> {
     say(rt, "feed 0 1", job.feed(rack, net, 0, 1))?;
     say(rt, "feed 0 -1", job.feed(rack, net, 0, -1))?;
     say(rt, "feed 4 1", job.feed(rack, net, 4, 1))?;
@@ -89,60 +79,43 @@ fn calls(
     run_for(rt, job, rack, net, 9)
 }
 
-// A unit's figures, and whether its work closes.
+// The figures of one unit, which stands at the place `number`, and whether its work closes.
 fn close(
     rt: &HostRuntime,
     job: &SetJob,
-    rack: &[HouseUnit; 3],
+    rack: &Rack,
     net: &Net,
-    unit: u8,
+    number: u8,
     start: i64,
 ) -> anyhow::Result<()> {
-    let Ok(told) = job.read(rack, net, unit) else {
-        return Err(anyhow!("no such unit"));
-    };
-    if unit >= 3 {
-        return Err(anyhow!("no such unit"));
-    }
-    let modulus = rack[unit as usize].modulus();
-    let position = told.position;
-    let residue = told.residue;
-    let pulses = told.net;
-    let work = told.work;
+    let told = job.read(rack, net, number)?;
+    let unit = rack.get(usize::from(number)).ok_or(Refusal::NotThere)?;
+    let modulus = unit.modulus();
     println!(rt;
-        "unit {unit}: position {position}, {modulus} x {pulses} + {residue} - {start}, work {work}"
+        "unit {number}: position {}, {modulus} x {} + {} - {start}, work {}",
+        told.position, told.net, told.residue, told.work
     )?;
     // an i128 holds any such sum, so nothing wraps
     let sum = i128::from(modulus)
-        .wrapping_mul(i128::from(pulses))
-        .wrapping_add(i128::from(residue))
+        .wrapping_mul(i128::from(told.net))
+        .wrapping_add(i128::from(told.residue))
         .wrapping_sub(i128::from(start));
-    if sum == i128::from(work) {
-        Ok(println!(rt; "unit {unit}: closes")?)
+    let closes = if sum == i128::from(told.work) {
+        "closes"
     } else {
-        Ok(println!(rt; "unit {unit}: does not close")?)
-    }
-}
-
-fn audit(rt: &HostRuntime) -> anyhow::Result<()> {
-    let Ok(mut rack) = units() else {
-        return Err(anyhow!("no units"));
+        "does not close"
     };
-    let (job, mut net) = match wired(&mut rack) {
-        Ok(made) => made,
-        Err(_) => return Err(anyhow!("the units could not be wired")),
-    };
-    let job = match job.set(&rack, &mut net) {
-        Ok(job) => job,
-        Err(_) => return Err(anyhow!("the job could not be set")),
-    };
-    let starts = [rack[0].residue(), rack[1].residue(), rack[2].residue()];
-    calls(rt, &job, &mut rack, &mut net)?;
-    close(rt, &job, &rack, &net, 0, starts[0])?;
-    close(rt, &job, &rack, &net, 1, starts[1])?;
-    close(rt, &job, &rack, &net, 2, starts[2])
+    println!(rt; "unit {number}: {closes}")?;
+    Ok(())
 }
 
 fn main(rt: HostRuntime) -> anyhow::Result<()> {
-    audit(&rt)
+    let mut rack = units()?;
+    let (job, mut net) = wired(&mut rack)?;
+    let starts = rack.map(|unit| unit.residue());
+    calls(&rt, &job, &mut rack, &mut net)?;
+    for (number, &start) in (0..).zip(&starts) {
+        close(&rt, &job, &rack, &net, number, start)?;
+    }
+    Ok(())
 }

@@ -30,7 +30,7 @@ pub record Kept {U : Type 0} (figures : U → Figures) (units : ℕ) (ws : List 
 
 -- the y taps of a unit of the job read what is there
 wired_y : (n : Net) (i : ℕ) → i < n.count → T (taps_there n.count (record_at n.table.records i).y)
-wired_y n i h = (both (tap_there n.count (record_at n.table.records i).x) (taps_there n.count (record_at n.table.records i).y) (n.wired i blank (omega arith) (let f = n.few in omega arith))).1
+wired_y n i h = (both (tap_there n.count (record_at n.table.records i).x) (taps_there n.count (record_at n.table.records i).y) (n.wired i blank (let f = n.few in omega arith))).1
 
 module _ {U : Type 0} (figures : U → Figures) (law : (u : U) → Lawful (figures u)) (units : ℕ) (ws : List Wired) where
   next_given : (s : Lines) (us : List U) (n : Net) → Kept figures units ws s us n → next_fed n ≡ map oldest s.waiting

@@ -1,7 +1,7 @@
 use unit::pulse::Pulse;
 
 // What a job tells of one unit.
-#[derive(Clone, Copy)]
+#[derive(Clone, Copy, PartialEq, Eq, Debug)]
 pub struct Reading {
     pub ticks: u32,
     pub position: i64,

@@ -1,18 +1,24 @@
 -- What the letter of a line tells, and the faults of a line that is a frame.
-use Rattle.std.proofs.Common.{◌≡◌, ℕ, ◌<◌, ◌⊎◌, List, [], ◌∷◌, sym, refl, ap, ◌∙◌, subst, inl, inr, ⊎_elim, arith}
-use Rattle.frames.specs.Faults.{LineFault, no_letter, breaks, number, figure, source}
+use Rattle.std.proofs.Common.{◌≡◌, ℕ, ◌<◌, ◌⊎◌, List, [], ◌∷◌, sym, refl, ap, ◌∙◌, subst, inl, inr, ⊎_elim, Some, None, Ok, Err, Option, Result, MatchOption, arith}
+use Rattle.frames.specs.Faults.{LineFault, no_letter, no_digits, breaks, number, figure, source}
 use Rattle.frames.specs.Frames.{Frame, count, integrator, servo, tap, last, letter, line}
 use Rattle.frames.specs.Rules.{Expected, Ordered, InRange, Sourced, Keeps, UnitsStand, counted, how_many, is_unit}
-use Rattle.lines.specs.Kinds.{letter_of}
+use Rattle.hexa.specs.Hex.{BadDigits}
+use Rattle.lines.specs.Kinds.{letter_of, NoLetter}
 use Rattle.lines.specs.declared.frame.Frame.{Frame as Kind}
 use Rattle.lines.specs.declared.frame.Frame.TheVariants as kind
 use Rattle.lines.specs.declared.reader.Part.{Part}
+use Rattle.sheet.specs.Patches.{make_frame}
+use Rattle.sheet.specs.declared.parts.MakeFigures.{MakeFigures}
+use Rattle.sheet.specs.declared.parts.MakeFigures.TheVariants.{Integrator, Servo}
 use Rattle.sheet.specs.declared.parts.UnitFigures.{UnitFigures}
-use Rattle.unit.specs.declared.refusal.Refusal.TheVariants.{FrameOrder, UnitOrder, FigureOutOfRange, NoSuchSource}
+use Rattle.unit.specs.declared.refusal.Refusal.{Refusal}
+use Rattle.unit.specs.declared.refusal.Refusal.TheVariants.{FrameOrder, FrameDigits, UnitOrder, FigureOutOfRange, NoSuchSource}
 use Rattle.wires.specs.declared.tap.Input.{Input}
 use Rattle.wires.specs.declared.tap.Input.TheVariants.{X, Y}
-use Rattle.entries.specs.Entries.{Says, UnitWanted, UnitRead}
-use Rattle.entries.specs.Making.{Said}
+use Rattle.entries.specs.Entries.{Says, UnitSays, UnitWanted, UnitRead, UnitEntry}
+use Rattle.entries.specs.Making.{Said, UnitOf}
+use Rattle.entries.specs.declared.figures.UnitFrame.{UnitFrame}
 
 -- a line with the letter a, where every letter that may stand is another
 other_letter : (above : List Frame) (l ds : List ℕ) (a : ℕ) → l ≡ a ∷ ds → ((f : Frame) → Expected above f → letter f ≡ a → ⊥) → LineFault above l FrameOrder
@@ -77,9 +83,9 @@ not_tail above s l (kind.X d) ds e h k m = absurd (h d refl)
 not_tail above s l (kind.Y d) ds e h k m = absurd (k d refl)
 not_tail above s l (kind.Last d) ds e h k m = absurd (m d refl)
 
--- the line of a frame whose kind is known
-pub lettered : (l : List ℕ) (f g : Kind) (ds : Kind → List ℕ) → l ≡ letter_of f ∷ ds f → f ≡ g → l ≡ letter_of g ∷ ds g
-lettered l f g ds e is = e ∙ ap (λ z. letter_of z ∷ ds z) is
+-- a line that is no frame
+pub no_frame : (above : List Frame) (l : List ℕ) (e : Refusal) → (e ≡ FrameOrder) × NoLetter l → LineFault above l e
+no_frame above l e (is, none) = rw is (no_letter (λ f ds x. none f ds))
 
 -- faults of a line that is a frame
 
@@ -98,6 +104,45 @@ module _ (above : List Frame) (l : List ℕ) (f : Frame) (s : Says l f) (x : Exp
 
   pub unit_read : (u : ℕ) (y : UnitFigures) → Ordered above f → Sourced above f → Said u f y → UnitRead above u l y
   unit_read u y o t d = record { keeps = subst (Keeps above) (sym d.is) (keeps o d.ranged t); placed = d.placed; is = s.is ∙ ap line (sym d.is) }
+
+-- a unit's line, whatever its make
+
+-- the digits of a line are those of a unit, or wrong
+abbrev pub UnitTold : List ℕ → Option UnitFrame → Type 0
+UnitTold l r = MatchOption r ((above : List Frame) (u : ℕ) → UnitWanted above u → LineFault above l FrameDigits) (UnitSays l)
+
+pub integrator_told : (l ds : List ℕ) → l ≡ 73 ∷ ds → (r : Option UnitFrame) → MatchOption r (BadDigits 24 ds) (UnitSays (73 ∷ ds)) → UnitTold l r
+integrator_told l ds e None bad = λ above u w. no_digits (integrator 0 0 0 0 0 0) ds (wants above u w) e bad
+integrator_told l ds e (Some f) told = rw e told
+
+pub servo_told : (l ds : List ℕ) → l ≡ 83 ∷ ds → (r : Option UnitFrame) → MatchOption r (BadDigits 22 ds) (UnitSays (83 ∷ ds)) → UnitTold l r
+servo_told l ds e None bad = λ above u w. no_digits (servo 0 0 0 0 0) ds (wants above u w) e bad
+servo_told l ds e (Some f) told = rw e told
+
+module _ (above : List Frame) (u : ℕ) (w : UnitWanted above u) where
+  unit_expected : (v : ℕ) (m : MakeFigures) (p k s : ℕ) → Expected above (make_frame v m p k s)
+  unit_expected v (Integrator n r) p k s = wants above u w
+  unit_expected v (Servo l) p k s = wants above u w
+
+  unit_ordered : (m : MakeFigures) (p k s : ℕ) → Ordered above (make_frame u m p k s)
+  unit_ordered (Integrator n r) p k s = sym w.number
+  unit_ordered (Servo l) p k s = sym w.number
+
+  unit_number : (v : ℕ) (m : MakeFigures) (p k s : ℕ) → Ordered above (make_frame v m p k s) → v ≡ u
+  unit_number v (Integrator n r) p k s o = o ∙ w.number
+  unit_number v (Servo l) p k s o = o ∙ w.number
+
+  unit_sourced : (m : MakeFigures) (p k s : ℕ) → Sourced above (make_frame u m p k s)
+  unit_sourced (Integrator n r) p k s = tt
+  unit_sourced (Servo l) p k s = tt
+
+  pub other_unit : (l : List ℕ) (f : UnitFrame) → UnitSays l f → (f.unit ≡ u → ⊥) → LineFault above l UnitOrder
+  other_unit l f h n = bad_number above l _ h (unit_expected f.unit f.make f.position f.divisor f.sense) (λ o. n (unit_number f.unit f.make f.position f.divisor f.sense o))
+
+  -- with the number that is wanted
+  pub unit_answer : (l : List ℕ) (m : MakeFigures) (p k s : ℕ) → Says l (make_frame u m p k s) → (r : Result UnitFigures Refusal) → UnitOf (λ v. make_frame v m p k s) r → UnitEntry above u l r
+  unit_answer l m p k s h (Ok x) d = unit_read above l _ h (unit_expected u m p k s) u x (unit_ordered m p k s) (unit_sourced m p k s) (d u)
+  unit_answer l m p k s h (Err e) (is, none) = rw is (bad_figure above l _ h (unit_expected u m p k s) (unit_ordered m p k s) (none u))
 
 pub below_count : (above : List Frame) (i : Input) (u g t : ℕ) → Ordered above (tap i u g t) → u < counted above
 below_count above X u g t o = o.0

@@ -1,30 +1,27 @@
 -- One tap more.
-use Rattle.std.proofs.Common.{◌≡◌, ℕ, suc, ◌+◌, ◌<◌, ◌≤◌, Bool, true, false, cond, List, ◌∷◌, length, filter, refl, ap, ◌∙◌, arith}
+use Rattle.std.proofs.Common.{◌≡◌, ℕ, suc, ◌+◌, ◌<◌, ◌≤◌, List, ◌∷◌, refl, ap, ◌∙◌, arith}
 use Rattle.std.proofs.lemmas.Bool.{eq-eqb, ne_eqb}
 use Rattle.frames.specs.Frames.{Frame, tap}
 use Rattle.frames.specs.Rules.{how_many, is_tap_of, is_y_of}
 use Rattle.sheet.specs.Patches.{unit_frames}
 use Rattle.sheet.specs.declared.parts.UnitFigures.{UnitFigures}
-use Rattle.sheet.proofs.Counting.{units_no_tap, units_no_y, units_no_latest}
+use Rattle.sheet.proofs.Counting.{one_more, no_more, units_no_tap, units_no_y, units_no_latest}
 use Rattle.wires.specs.declared.tap.Input.{Input}
 use Rattle.wires.specs.declared.tap.Input.TheVariants.{X, Y}
 use Rattle.entries.specs.Turns.{Taps}
 
-counts : (kind : Frame → Bool) (f : Frame) (above : List Frame) (b : Bool) → kind f ≡ b → how_many kind (f ∷ above) ≡ length (cond b (f ∷ filter kind above) (filter kind above))
-counts kind f above b e = ap (λ x. length (cond x (f ∷ filter kind above) (filter kind above))) e
-
 module _ (above : List Frame) (u g t : ℕ) where
   own_tap : (i : Input) → how_many (is_tap_of u) (tap i u g t ∷ above) ≡ suc (how_many (is_tap_of u) above)
-  own_tap i = counts (is_tap_of u) (tap i u g t) above true (eq-eqb u u refl)
+  own_tap i = one_more (is_tap_of u) (tap i u g t) above (eq-eqb u u refl)
 
   own_y : how_many (is_y_of u) (tap Y u g t ∷ above) ≡ suc (how_many (is_y_of u) above)
-  own_y = counts (is_y_of u) (tap Y u g t) above true (eq-eqb u u refl)
+  own_y = one_more (is_y_of u) (tap Y u g t) above (eq-eqb u u refl)
 
   other_tap : (i : Input) (v : ℕ) → u < v → how_many (is_tap_of v) (tap i u g t ∷ above) ≡ how_many (is_tap_of v) above
-  other_tap i v h = counts (is_tap_of v) (tap i u g t) above false (ne_eqb u v (λ e. omega arith))
+  other_tap i v h = no_more (is_tap_of v) (tap i u g t) above (ne_eqb u v (λ e. omega arith))
 
   other_y : (v : ℕ) → u < v → how_many (is_y_of v) (tap Y u g t ∷ above) ≡ how_many (is_y_of v) above
-  other_y v h = counts (is_y_of v) (tap Y u g t) above false (ne_eqb u v (λ e. omega arith))
+  other_y v h = no_more (is_y_of v) (tap Y u g t) above (ne_eqb u v (λ e. omega arith))
 
   pub add_x : (ys n : ℕ) → Taps above u 0 ys n → ys ≤ 0 → Taps (tap X u g t ∷ above) u 1 0 (n + 1)
   add_x ys n h z = record {

@@ -3,13 +3,14 @@ use Rattle.std.specs.Prelude.{◌≡◌, ℕ, ◌+◌, ◌<◌, ◌≤◌, true,
 use Rattle.frames.specs.Faults.{LineFault}
 use Rattle.frames.specs.Frames.{Frame, count, tap, last, tap_letter, line, Fits}
 use Rattle.frames.specs.Rules.{Keeps, UnitsStand, counted, how_many, is_unit}
-use Rattle.sheet.specs.Patches.{unit_frame, tap_frame, largest_position}
+use Rattle.sheet.specs.Patches.{make_frame, unit_frame, tap_frame, largest_position}
 use Rattle.sheet.specs.declared.parts.Plug.{Plug}
 use Rattle.sheet.specs.declared.parts.UnitFigures.{UnitFigures}
 use Rattle.unit.specs.declared.refusal.Refusal.{Refusal}
 use Rattle.wires.specs.Sources.{there}
 use Rattle.wires.specs.declared.tap.Input.{Input}
 use Rattle.entries.specs.Turns.{Turn}
+use Rattle.entries.specs.declared.figures.UnitFrame.{UnitFrame}
 use Rattle.entries.specs.declared.latest.Latest.{Latest}
 use Rattle.entries.specs.declared.taps.Tail.{Tail}
 use Rattle.entries.specs.declared.taps.Tail.TheVariants.{Tap, Last}
@@ -18,6 +19,10 @@ use Rattle.entries.specs.declared.taps.Tail.TheVariants.{Tap, Last}
 pub record Says (l : List ℕ) (f : Frame) : Type 0 where
   pub fits : Fits f
   pub is : l ≡ line f
+
+-- the line is the frame of a unit
+abbrev pub UnitSays : List ℕ → UnitFrame → Type 0
+UnitSays l f = Says l (make_frame f.unit f.make f.position f.divisor f.sense)
 
 -- the digits are those of a tap of either input
 abbrev pub TapSays : List ℕ → ℕ → ℕ → ℕ → Type 0

@@ -1,6 +1,7 @@
-// The lines below those of the units: taps, and the last line.
-ghost use Rattle.std.specs.Prelude.{◌∷◌};
+// The lines below those of the units: taps, and the last line. Digits and figures are taken by `let .. else`, each naming its refusal.
+ghost use Rattle.std.specs.Prelude.{ℕ, ◌∷◌};
 ghost use Rattle.entries.specs.Entries.{TailAnswers};
+ghost use Rattle.entries.specs.declared.latest.Latest.{Latest};
 
 use crate::figures::last_figures;
 use crate::latest::Latest;
@@ -17,19 +18,17 @@ const SHORTEST_STEP: u32 = 1;
 pub fn tail_entry(line: Part, count: u8, latest: Latest) -> Result<Tail, Refusal>
     ensures { TailAnswers count latest line.entry.bytes.now result }
 {
-    let Some(frame) = Frame::of(line) else {
-        return Err(Refusal::FrameOrder);
-    };
-    match frame {
+    match Frame::try_from(line)? {
         Frame::X(digits) => tap_entry(Input::X, digits.bytes, count, latest),
         Frame::Y(digits) => tap_entry(Input::Y, digits.bytes, count, latest),
-        Frame::Last(digits) => last_entry(digits.bytes, count, latest),
+        Frame::Last(digits) => last_entry(digits.bytes),
         _ => Err(Refusal::FrameOrder),
     }
 }
 
-fn last_entry(digits: &[u8], count: u8, latest: Latest) -> Result<Tail, Refusal>
-    ensures { TailAnswers count latest (71 ∷ digits.now) result }
+// The last line, whatever count and taps stand above it.
+fn last_entry(digits: &[u8]) -> Result<Tail, Refusal>
+    ensures { (count : ℕ) (latest : Latest) → TailAnswers count latest (71 ∷ digits.now) result }
 {
     let Some((ticks, step)) = last_figures(digits) else {
         return Err(Refusal::FrameDigits);

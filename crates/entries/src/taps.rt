@@ -1,4 +1,4 @@
-// The lines of the taps.
+// The lines of the taps. Digits and figures are taken by `let .. else`, each naming its refusal.
 ghost use Rattle.std.specs.Prelude.{◌∷◌};
 ghost use Rattle.frames.specs.Frames.{tap_letter};
 ghost use Rattle.entries.specs.Entries.{TailAnswers};
@@ -11,7 +11,7 @@ use wires::source::Source;
 use wires::tap::{Input, Sign, Tap};
 
 // What a line below the units says: a tap, which is then the latest, or the ticks and the step between rows.
-#[derive(Clone, Copy)]
+#[derive(Clone, Copy, PartialEq, Eq, Debug)]
 pub enum Tail {
     Tap(Plug, Latest),
     Last { ticks: u32, step: u32 },
@@ -30,7 +30,7 @@ pub fn tap_entry(input: Input, digits: &[u8], count: u8, latest: Latest) -> Resu
     let Some(next) = latest.with(unit, input) else {
         return Err(Refusal::UnitOrder);
     };
-    let Some(sign) = Sign::of(sign) else {
+    let Ok(sign) = Sign::try_from(sign) else {
         return Err(Refusal::FigureOutOfRange);
     };
     let Some(source) = Source::of(source, count) else {

@@ -1,10 +1,9 @@
-// The line at the top, and the lines of the units.
-ghost use Rattle.std.specs.Prelude.{◌∷◌};
-ghost use Rattle.frames.specs.Frames.{integrator, servo};
+// The line at the top, and the lines of the units. Digits and figures are taken by `let .. else`, each naming its refusal.
+ghost use Rattle.sheet.specs.Patches.{make_frame};
 ghost use Rattle.entries.specs.Entries.{CountEntry, UnitAnswers};
 ghost use Rattle.entries.specs.Making.{UnitOf};
 
-use crate::figures::{count_figure, integrator_figures, servo_figures};
+use crate::figures::{UnitFrame, count_figure, integrator_figures, servo_figures};
 use layers::house::{house_integrator, house_servo};
 use layers::turn::Sense;
 use lines::frame::Frame;
@@ -21,16 +20,13 @@ const MOST: u8 = 64;
 pub fn count_entry(line: Part) -> Result<u8, Refusal>
     ensures { CountEntry line.entry.bytes.now result }
 {
-    let Some(frame) = Frame::of(line) else {
-        return Err(Refusal::FrameOrder);
-    };
-    let Frame::Count(digits) = frame else {
+    let Frame::Count(digits) = Frame::try_from(line)? else {
         return Err(Refusal::FrameOrder);
     };
     let Some(units) = count_figure(digits.bytes) else {
         return Err(Refusal::FrameDigits);
     };
-    if units < FEWEST || units > MOST {
+    if !(FEWEST..=MOST).contains(&units) {
         return Err(Refusal::FigureOutOfRange);
     }
     Ok(units)
@@ -40,92 +36,49 @@ pub fn count_entry(line: Part) -> Result<u8, Refusal>
 pub fn unit_entry(line: Part, next: u8) -> Result<UnitFigures, Refusal>
     ensures { UnitAnswers next line.entry.bytes.now result }
 {
-    let Some(frame) = Frame::of(line) else {
-        return Err(Refusal::FrameOrder);
+    let frame = Frame::try_from(line)?;
+    let figures = match frame {
+        Frame::Integrator(digits) => integrator_figures(digits.bytes),
+        Frame::Servo(digits) => servo_figures(digits.bytes),
+        _ => return Err(Refusal::FrameOrder),
     };
-    match frame {
-        Frame::Integrator(digits) => integrator_entry(digits.bytes, next),
-        Frame::Servo(digits) => servo_entry(digits.bytes, next),
-        _ => Err(Refusal::FrameOrder),
-    }
-}
-
-fn integrator_entry(digits: &[u8], next: u8) -> Result<UnitFigures, Refusal>
-    ensures { UnitAnswers next (73 ∷ digits.now) result }
-{
-    let Some((unit, length, position, residue, divisor, sense)) = integrator_figures(digits) else {
+    let Some(figures) = figures else {
         return Err(Refusal::FrameDigits);
     };
-    if unit != next {
+    if figures.unit != next {
         return Err(Refusal::UnitOrder);
     }
-    let Some(figures) = integrator_unit(length, position, residue, divisor, sense) else {
-        return Err(Refusal::FigureOutOfRange);
-    };
-    Ok(figures)
+    figures.made()
 }
 
-fn servo_entry(digits: &[u8], next: u8) -> Result<UnitFigures, Refusal>
-    ensures { UnitAnswers next (83 ∷ digits.now) result }
-{
-    let Some((unit, limit, position, divisor, sense)) = servo_figures(digits) else {
-        return Err(Refusal::FrameDigits);
-    };
-    if unit != next {
-        return Err(Refusal::UnitOrder);
+impl UnitFrame {
+    // The unit that can be made of the figures; refused where one of them is out of its range.
+    fn made(self) -> Result<UnitFigures, Refusal>
+        ensures { UnitOf (λ u. make_frame u self.make self.position self.divisor self.sense) result }
+    {
+        let Ok(sense) = Sense::try_from(self.sense) else {
+            return Err(Refusal::FigureOutOfRange);
+        };
+        let position = self.position.cast_signed();
+        match self.make {
+            MakeFigures::Integrator { length, residue } => {
+                house_integrator(
+                    length,
+                    i64::from(position),
+                    i64::from(residue),
+                    self.divisor,
+                    sense,
+                )?;
+            }
+            MakeFigures::Servo { limit } => {
+                house_servo(limit, i64::from(position), self.divisor, sense)?;
+            }
+        }
+        Ok(UnitFigures {
+            make: self.make,
+            position,
+            divisor: self.divisor,
+            sense,
+        })
     }
-    let Some(figures) = servo_unit(limit, position, divisor, sense) else {
-        return Err(Refusal::FigureOutOfRange);
-    };
-    Ok(figures)
-}
-
-// What a house unit round an integrator can be made of; its position is in two's complement.
-fn integrator_unit(
-    length: u8,
-    bits: u32,
-    residue: u32,
-    divisor: u8,
-    sense: u8,
-) -> Option<UnitFigures>
-    ensures { UnitOf (λ u. integrator u length bits residue divisor sense) result }
-{
-    let Some(sense) = Sense::of(sense) else {
-        return None;
-    };
-    let position = bits.cast_signed();
-    let Ok(_) = house_integrator(
-        length,
-        i64::from(position),
-        i64::from(residue),
-        divisor,
-        sense,
-    ) else {
-        return None;
-    };
-    Some(UnitFigures {
-        make: MakeFigures::Integrator { length, residue },
-        position,
-        divisor,
-        sense,
-    })
-}
-
-// What a house unit round a servo can be made of.
-fn servo_unit(limit: u32, bits: u32, divisor: u8, sense: u8) -> Option<UnitFigures>
-    ensures { UnitOf (λ u. servo u limit bits divisor sense) result }
-{
-    let Some(sense) = Sense::of(sense) else {
-        return None;
-    };
-    let position = bits.cast_signed();
-    let Ok(_) = house_servo(limit, i64::from(position), divisor, sense) else {
-        return None;
-    };
-    Some(UnitFigures {
-        make: MakeFigures::Servo { limit },
-        position,
-        divisor,
-        sense,
-    })
 }

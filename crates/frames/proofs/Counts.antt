@@ -1,5 +1,5 @@
 -- What lawful frames count.
-use Rattle.std.proofs.Common.{◌≡◌, ℕ, ◌≤◌, ◌⊎◌, List, [], ◌∷◌, length, refl, ap, subst, inl, inr, ⊎_elim, arith}
+use Rattle.std.proofs.Common.{◌≡◌, ℕ, ◌≤◌, ◌⊎◌, List, [], ◌∷◌, length, refl, ap, inl, inr, arith}
 use Rattle.frames.specs.Frames.{Frame, count, integrator, servo, tap, last}
 use Rattle.frames.specs.Rules.{Lawful, Expected, counted, how_many, is_last}
 
@@ -26,11 +26,19 @@ nothing_expected t q above h (servo u l p k s) x = omega (arith, x, h.1.expected
 nothing_expected t q above h (tap i u g s) x = omega (arith, x.open_end)
 nothing_expected t q above h (last s p) x = omega (arith, x.open_end)
 
--- so the last frame comes last, if it has come
-pub ends : (a : List Frame) → Lawful a → (how_many is_last a ≡ 0) ⊎ ((t : ℕ) × (q : ℕ) × (b : List Frame) × (a ≡ last t q ∷ b))
+-- the last frame is the lowest, if it is there
+abbrev LastIfAny : List Frame → Type 0
+LastIfAny a = (how_many is_last a ≡ 0) ⊎ ((t : ℕ) × (q : ℕ) × (b : List Frame) × (a ≡ last t q ∷ b))
+
+-- where a frame may stand below, the last has not come
+not_yet : (a : List Frame) (f : Frame) → Lawful a → Expected a f → LastIfAny a → how_many is_last a ≡ 0
+not_yet a f h x (inl none) = none
+not_yet a f h x (inr (t, q, b, is)) = absurd (nothing_expected t q b (rw is at h) f (rw is at x))
+
+pub ends : (a : List Frame) → Lawful a → LastIfAny a
 ends [] h = inl refl
 ends (last t q ∷ a) h = inr (t, q, a, refl)
-ends (count c ∷ a) h = ⊎_elim (λ z. inl z) (λ e. absurd (nothing_expected e.0 e.1 e.2 (subst Lawful e.3 h.0) (count c) (subst (λ b. Expected b (count c)) e.3 h.1.expected))) (ends a h.0)
-ends (integrator u n p r k s ∷ a) h = ⊎_elim (λ z. inl z) (λ e. absurd (nothing_expected e.0 e.1 e.2 (subst Lawful e.3 h.0) (integrator u n p r k s) (subst (λ b. Expected b (integrator u n p r k s)) e.3 h.1.expected))) (ends a h.0)
-ends (servo u l p k s ∷ a) h = ⊎_elim (λ z. inl z) (λ e. absurd (nothing_expected e.0 e.1 e.2 (subst Lawful e.3 h.0) (servo u l p k s) (subst (λ b. Expected b (servo u l p k s)) e.3 h.1.expected))) (ends a h.0)
-ends (tap i u g t ∷ a) h = ⊎_elim (λ z. inl z) (λ e. absurd (nothing_expected e.0 e.1 e.2 (subst Lawful e.3 h.0) (tap i u g t) (subst (λ b. Expected b (tap i u g t)) e.3 h.1.expected))) (ends a h.0)
+ends (count c ∷ a) h = inl (not_yet a (count c) h.0 h.1.expected (ends a h.0))
+ends (integrator u n p r k s ∷ a) h = inl (not_yet a (integrator u n p r k s) h.0 h.1.expected (ends a h.0))
+ends (servo u l p k s ∷ a) h = inl (not_yet a (servo u l p k s) h.0 h.1.expected (ends a h.0))
+ends (tap i u g t ∷ a) h = inl (not_yet a (tap i u g t) h.0 h.1.expected (ends a h.0))

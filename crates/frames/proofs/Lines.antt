@@ -1,22 +1,16 @@
 -- A frame is known by its line, and a line by its text.
-use Rattle.std.proofs.Common.{◌≡◌, ℕ, suc, ◌+◌, ◌≤◌, cond, eqb, List, [], ◌∷◌, ◌++◌, length, get_or, take, drop, sum, sym, refl, ap, ◌∙◌, subst, ⊎_elim, arith, length-append}
+use Rattle.std.proofs.Common.{◌≡◌, ℕ, suc, ◌≤◌, cond, eqb, List, [], ◌∷◌, ◌++◌, length, get_or, take, drop, sum, sym, refl, ap, ◌∙◌, subst, ⊎_elim, arith}
 use Rattle.std.specs.List.{AllByRecursion}
 use Rattle.std.proofs.ByRecursion.{All-get_or, All-append, All-weaker}
 use Rattle.std.proofs.lemmas.List.{take_at, drop_at}
-use Rattle.std.proofs.lemmas.List.Sums.{sum_by-cons}
 use Rattle.hexa.specs.Hex.{hex, hexes, Writable, IsDigit, NoDigits, BadDigits}
+use Rattle.hexa.proofs.Widths.{length-hexes}
 use Rattle.hexa.proofs.Digits.{length-hex, same_from_hex, digits_hex, digit_high}
 use Rattle.wires.specs.declared.tap.Input.TheVariants.{X, Y}
 use Rattle.frames.specs.Frames.{Frame, count, integrator, servo, tap, last, letter, values, widths, line, Fits}
 use Rattle.frames.specs.Faults.{NoFeed}
 
 -- digits
-
-pub length-hexes : (ws vs : List ℕ) → length ws ≡ length vs → length (hexes ws vs) ≡ sum ws
-length-hexes [] [] n = refl
-length-hexes [] (v ∷ vs) n = absurd (omega arith)
-length-hexes (w ∷ ws) [] n = absurd (omega arith)
-length-hexes (w ∷ ws) (v ∷ vs) n = length-append (hex w v) (hexes ws vs) ∙ (λ i. length-hex w v i + length-hexes ws vs (omega arith) i) ∙ sym (sum_by-cons (λ x. x) w ws)
 
 all_digits : (ws vs : List ℕ) → AllByRecursion IsDigit (hexes ws vs)
 all_digits [] vs = tt

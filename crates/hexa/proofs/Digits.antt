@@ -1,7 +1,6 @@
 -- One more digit, the length, and that a number is known by its digits.
-use Rattle.std.proofs.Common.{◌≡◌, ℕ, zero, suc, ◌+◌, ◌-◌, ◌*◌, ◌/◌, ◌%◌, ◌^◌, ◌<◌, ◌≤◌, List, [], ◌∷◌, ◌++◌, length, drop, set, sym, refl, ap, ◌∙◌, append_assoc, pow-suc, add-one, arith}
-use native.Mathlib.Nat.{pow-le-pow_right}
-use Rattle.std.proofs.lemmas.List.{length_push, same_from_push, drop-set}
+use Rattle.std.proofs.Common.{◌≡◌, ℕ, zero, suc, ◌+◌, ◌-◌, ◌*◌, ◌/◌, ◌%◌, ◌^◌, ◌<◌, ◌≤◌, [], ◌∷◌, ◌++◌, length, sym, refl, ap, ◌∙◌, pow-suc, add-one, arith}
+use Rattle.std.proofs.lemmas.List.{length_push, same_from_push}
 use Rattle.std.proofs.lemmas.Bool.Decides.{nat_tests}
 use Rattle.std.specs.List.{AllByRecursion}
 use Rattle.std.proofs.ByRecursion.{All-push}
@@ -19,7 +18,7 @@ unfolding hex
 length-hex zero v = refl
 length-hex (suc k) v = length_push (hex k (v / 16)) _ ∙ (rw (length-hex k (v / 16)) (add-one k))
 
-pub same_from_digit : (x y : ℕ) → x < 16 → y < 16 → digit x ≡ digit y → x ≡ y
+same_from_digit : (x y : ℕ) → x < 16 → y < 16 → digit x ≡ digit y → x ≡ y
 same_from_digit x y hx hy e = grind (arith, nat_tests)
 
 -- two numbers of k digits with the same digits are one
@@ -42,20 +41,11 @@ hex_none v = refl
 pub room_more : (i v x : ℕ) → v < 16 ^ i → x < 16 → v * 16 + x < 16 ^ (i + 1)
 room_more i v x hv hx = rw (add-one, pow-suc) (omega arith)
 
-pub room : (i n : ℕ) → i ≤ n → 16 ^ i ≤ 16 ^ n
-room i n h = pow-le-pow_right (omega arith) h
-
 pub hex_last : (i v : ℕ) → 0 < i → hex i v ≡ hex (i - 1) (v / 16) ++ digit (v % 16) ∷ []
 hex_last i v h =
     let e : v / 16 * 16 + v % 16 ≡ v = omega arith in
     let s : i - 1 + 1 ≡ i = omega arith in
     sym (ap (λ n. hex n v) s) ∙ ap (λ w. hex (i - 1 + 1) w) (sym e) ∙ hex_push (i - 1) (v / 16) (v % 16) (omega arith)
-
--- a digit written before what is there
-pub digit_before : (buf : List ℕ) (at i v d : ℕ) → 0 < i → at + i ≤ length buf → d ≡ digit (v % 16) → hex (i - 1) (v / 16) ++ drop (at + (i - 1)) (set buf (at + (i - 1)) d) ≡ hex i v ++ drop (at + i) buf
-digit_before buf at i v d h room e =
-    let s : at + (i - 1) + 1 ≡ at + i = omega arith in
-    rw (drop-set buf (at + (i - 1)) d (omega arith), s, e, hex_last i v h, append_assoc)
 
 pub digits_hex : (k v : ℕ) → AllByRecursion IsDigit (hex k v)
 unfolding hex

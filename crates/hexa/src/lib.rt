@@ -2,10 +2,12 @@
 // `figures` asks that none is above 8, and `put_figures` asks for room.
 #![tactic(auto)]
 
-ghost use Rattle.std.specs.Prelude.{◌≡◌, ◌+◌, ◌^◌, ◌<◌, ◌≤◌, ◌++◌, length, MatchBool, sum, MatchOption};
+ghost use Rattle.std.specs.Prelude.{◌≡◌, ◌^◌, ◌<◌, ◌≤◌, length, MatchBool, sum, MatchOption};
 ghost use Rattle.std.specs.List.{AllByRecursion};
-ghost use Rattle.buffer.specs.Puts.{Put};
+ghost use Rattle.buffer.specs.Cursor.{rest, Appends};
 ghost use Rattle.hexa.specs.Hex.{digit, hex, hexes, Digits, NoDigit, NoDigits, BadDigits, Writable};
+
+use buffer::Cursor;
 
 // The figures that the digits write, one for each width; none where there are too few or too many digits, or a byte is none.
 pub fn figures<const N: usize>(digits: &[u8], widths: [usize; N]) -> Option<[u32; N]>
@@ -13,37 +15,21 @@ pub fn figures<const N: usize>(digits: &[u8], widths: [usize; N]) -> Option<[u32
     ensures { MatchOption result (BadDigits (sum widths.entry) digits.now) (λ vs. Writable widths.entry vs × (digits.now ≡ hexes widths.entry vs)) }
 {
     let mut values = [0; N];
-    let mut at = 0;
-    for i in 0..N {
-        let width = widths[i];
-        if digits.len() - at < width {
-            return None;
-        }
-        let Some(value) = number(&digits[at..at + width]) else {
-            return None;
-        };
-        values[i] = value;
-        at += width;
+    let mut left = digits;
+    // by index: in a `zip` of `iter_mut` a proof knows only how many there are
+    for (i, &width) in widths.iter().enumerate() {
+        let (part, after) = left.split_at_checked(width)?;
+        values[i] = number(part)?;
+        left = after;
     }
-    if at != digits.len() {
-        return None;
-    }
-    Some(values)
+    left.is_empty().then_some(values)
 }
 
 // Whether there are so many bytes and each is a digit.
 pub fn are_digits(bytes: &[u8], count: usize) -> bool
     ensures { MatchBool result (Digits count bytes.now) (BadDigits count bytes.now) }
 {
-    if bytes.len() != count {
-        return false;
-    }
-    for &b in bytes {
-        let Some(_) = digit_value(b) else {
-            return false;
-        };
-    }
-    true
+    bytes.len() == count && bytes.iter().all(|&b| digit_value(b).is_some())
 }
 
 // The number that at most eight digits write; none where a byte is no digit.
@@ -51,12 +37,9 @@ fn number(digits: &[u8]) -> Option<u32>
     requires { length digits.now ≤ 8 }
     ensures { MatchOption result (NoDigits digits.now) (λ v. (v < 16 ^ length digits.now) × (digits.now ≡ hex (length digits.now) v)) }
 {
-    let mut v: u32 = 0;
-    for d in digits {
-        let Some(x) = digit_value(*d) else {
-            return None;
-        };
-        v = v * 16 + x as u32;
+    let mut v = 0;
+    for &d in digits {
+        v = v * 16 + u32::from(digit_value(d)?);
     }
     Some(v)
 }
@@ -71,34 +54,25 @@ fn digit_value(b: u8) -> Option<u8>
     }
 }
 
-// Writes the figures, each with as many digits as its width says, from the place `at` on, and answers the place after them.
-pub fn put_figures<const N: usize>(
-    buf: &mut [u8],
-    at: usize,
-    widths: [usize; N],
-    values: [u32; N],
-) -> usize
-    requires { at + sum widths ≤ length buf.old }
-    ensures { Put at (hexes widths.entry values.entry) buf.old buf.new result }
+// Writes the figures, each with as many digits as its width says.
+pub fn put_figures<const N: usize>(out: &mut Cursor, widths: [usize; N], values: [u32; N])
+    requires { sum widths ≤ length (rest out.old) }
+    ensures { Appends (hexes widths.entry values.entry) out.old out.new }
 {
-    let mut end = at;
-    for i in 0..N {
-        end = put_hex(buf, end, widths[i], values[i]);
+    for (&width, &value) in widths.iter().zip(&values) {
+        put_hex(out, width, value);
     }
-    end
 }
 
-// The last digit first.
-fn put_hex(buf: &mut [u8], at: usize, width: usize, value: u32) -> usize
-    requires { at + width ≤ length buf.old }
-    ensures { Put at (hex width value) buf.old buf.new result }
+// The digits before the last, and then the last: as many calls deep as there are digits.
+fn put_hex(out: &mut Cursor, width: usize, value: u32)
+    requires { width ≤ length (rest out.old) }
+    ensures { Appends (hex width value) out.old out.new }
 {
-    let mut rest = value;
-    for i in (0..width).rev() {
-        buf[at + i] = digit_of((rest % 16) as u8);
-        rest = rest / 16;
+    if width > 0 {
+        put_hex(out, width - 1, value / 16);
+        out.push(digit_of((value % 16) as u8));
     }
-    at + width
 }
 
 fn digit_of(v: u8) -> u8

@@ -1,3 +1,2 @@
 pub mod Dividing
-pub mod Telling
 pub mod Turning

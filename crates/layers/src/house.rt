@@ -16,7 +16,7 @@ use unit::refusal::Refusal;
 use unit::tally::Tally;
 use unit::unit::Unit;
 
-// The makes that a house unit may hold.
+// The makes that a house unit may hold: a closed list, which lies in the rack itself, where a `dyn` would need a place elsewhere.
 #[derive(Clone, Copy, PartialEq, Eq, Debug)]
 pub enum Make {
     Integrator(Integrator),
@@ -25,6 +25,8 @@ pub enum Make {
 
 // The unit that a patch text speaks of.
 pub type HouseUnit = Turn<Divider<Make>>;
+
+// Two makers, for each make has figures of its own; what they share is `housed`.
 
 // A house unit round an integrator; refused where one of the figures is out of its range.
 pub fn house_integrator(
@@ -56,10 +58,8 @@ pub fn house_servo(
 fn housed(make: Make, divisor: u8, sense: Sense) -> Result<HouseUnit, Refusal>
     ensures { Made house_figures (1 ≤ divisor) (turned sense (divided divisor 0 (make_figures make))) result }
 {
-    match Divider::new(divisor, make) {
-        Ok(divider) => Ok(Turn::new(sense, divider)),
-        Err(returned) => Err(returned.refusal),
-    }
+    let divider = Divider::new(divisor, make)?;
+    Ok(Turn::new(sense, divider))
 }
 
 impl Unit for Make {
@@ -68,17 +68,9 @@ impl Unit for Make {
     ghost lawful = { Prim.search rules };
 
     fn step(&mut self, x: Pulse, tally: Tally) -> Option<Pulse> {
-        match *self {
-            Make::Integrator(mut unit) => {
-                let pulse = unit.step(x, tally);
-                *self = Make::Integrator(unit);
-                pulse
-            }
-            Make::Servo(mut unit) => {
-                let pulse = unit.step(x, tally);
-                *self = Make::Servo(unit);
-                pulse
-            }
+        match self {
+            Make::Integrator(unit) => unit.step(x, tally),
+            Make::Servo(unit) => unit.step(x, tally),
         }
     }
 

@@ -4,18 +4,8 @@ use Rattle.hexa.specs.Hex.{Digits, BadDigits}
 use Rattle.unit.specs.declared.refusal.Refusal.{Refusal}
 use Rattle.unit.specs.declared.refusal.Refusal.TheVariants.{NotThere, FrameOrder, FrameDigits}
 use Rattle.lines.specs.Lines.{lines_of, place_after}
-use Rattle.lines.specs.Kinds.{letter_of, digits_of, NoLetter}
+use Rattle.lines.specs.Kinds.{letter_of, digits_of, size_of, NoLetter}
 use Rattle.lines.specs.declared.frame.Frame.{Frame}
-use Rattle.lines.specs.declared.frame.Frame.TheVariants.{Count, Integrator, Servo, X, Y, Last}
-
--- how many digits a frame has
-abbrev pub size_of : Frame → ℕ
-size_of (Count d) = 2
-size_of (Integrator d) = 24
-size_of (Servo d) = 22
-size_of (X d) = 6
-size_of (Y d) = 6
-size_of (Last d) = 12
 
 -- line number n of the text, counted from 1
 pub record LineIs (t : List ℕ) (n : ℕ) (l : List ℕ) : Type 0 where

@@ -1,15 +1,16 @@
-ghost use Rattle.std.specs.Prelude.{◌≡◌, ℕ, ◌<◌, ◌≤◌, length, ◌≢◌, slice_index};
+ghost use Rattle.std.specs.Prelude.{◌≡◌, ◌-◌, length};
+ghost use Rattle.std.specs.Iterator.{at_most};
 ghost use Rattle.lines.specs.Lines.{NextLine};
 
 // A part of the caller's own text, and the place where it begins there.
-#[derive(Clone, Copy)]
+#[derive(Clone, Copy, PartialEq, Eq, Debug)]
 pub struct Part<'a> {
     pub bytes: &'a [u8],
     pub at: usize,
 }
 
 // A reader of lines: the text, the place where the next line begins, and how many lines were read.
-#[derive(Drop)]
+#[derive(Drop, Debug)]
 pub struct LineReader<'a> {
     text: &'a [u8],
     at: usize,
@@ -29,24 +30,6 @@ impl<'a> LineReader<'a> {
         }
     }
 
-    // The next line, without its line feed; none at the end of the text. A last line may have no line feed.
-    pub fn next(&mut self) -> Option<Part<'a>>
-        ensures { NextLine self.old result self.new }
-    {
-        let text = self.text;
-        let at = self.at;
-        if at >= text.len() {
-            return None;
-        }
-        let end = feed_from(text, at);
-        self.at = if end < text.len() { end + 1 } else { end };
-        self.lines = self.lines.saturating_add(1);
-        Some(Part {
-            bytes: &text[at..end],
-            at,
-        })
-    }
-
     // How many lines were read.
     pub fn lines(&self) -> usize
         ensures { result ≡ self.now.lines }
@@ -55,20 +38,26 @@ impl<'a> LineReader<'a> {
     }
 }
 
-// The place of the first line feed from `at` on, or the text's end.
-fn feed_from(text: &[u8], at: usize) -> usize
-    requires { at ≤ length text.now }
-    ensures from { at ≤ result }
-    ensures within { result ≤ length text.now }
-    ensures plain { (k : ℕ) → at ≤ k → k < result → slice_index text.now k ≢ 10 }
-    ensures feed { result < length text.now → slice_index text.now result ≡ 10 }
-{
-    let mut i = at;
-    while i < text.len() {
-        if text[i] == b'\n' {
-            return i;
+// The lines without their line feeds. A last line may have none.
+impl<'a> Iterator for LineReader<'a> {
+    type Item = Part<'a>;
+
+    ghost next_gives = { NextLine };
+
+    ghost remaining = { λ r. at_most (length r.text.now - r.at) };
+
+    fn next(&mut self) -> Option<Part<'a>> {
+        let at = self.at;
+        if at >= self.text.len() {
+            return None;
         }
-        i += 1;
+        let rest = &self.text[at..];
+        let len = rest.iter().position(|&b| b == b'\n').unwrap_or(rest.len());
+        self.at = (at + len + 1).min(self.text.len());
+        self.lines = self.lines.saturating_add(1);
+        Some(Part {
+            bytes: &rest[..len],
+            at,
+        })
     }
-    i
 }

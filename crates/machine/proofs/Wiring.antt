@@ -49,7 +49,7 @@ with_tap_storable n Y r tap s h b w = subst (Storable n) (sym w.1.1) (with_y_sto
 -- every record of a net may be stored again
 pub storable : (n : Net) (i : ℕ) → i < most_units → Storable n (record_at n.table.records i)
 storable n i h = record {
-  net = n.emitted i blank (omega arith) h;
-  work = n.worked i blank (omega arith) h;
-  wired = n.wired i blank (omega arith) h;
+  net = n.emitted i blank (omega arith);
+  work = n.worked i blank (omega arith);
+  wired = n.wired i blank (omega arith);
 }

@@ -13,16 +13,6 @@ pub fn divide(v: i64, modulus: u32, low: i64) -> (Pulse, i64)
     requires below { v <ℤ ((low +ℤ pos modulus) +ℤ pos modulus) }
     ensures { OnlySolution modulus low v (value result.0) result.1 }
 {
-    carry(v, modulus, low)
-}
-
-// The same without the word that there are no others.
-fn carry(v: i64, modulus: u32, low: i64) -> (Pulse, i64)
-    requires near { unsigned_abs low ≤ largest }
-    requires above { (low -ℤ pos modulus) ≤ℤ v }
-    requires below { v <ℤ ((low +ℤ pos modulus) +ℤ pos modulus) }
-    ensures { Solves modulus low v (value result.0) result.1 }
-{
     let modulus = i64::from(modulus);
     if v < low {
         (Pulse::Minus, v + modulus)

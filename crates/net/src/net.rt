@@ -1,5 +1,5 @@
 ghost use Rattle.std.specs.Prelude.{◌≡◌, ◌≤◌, length};
-ghost use Rattle.std.specs.List.{AllWithin};
+ghost use Rattle.std.specs.List.{All};
 ghost use Rattle.net.specs.Bounds.{NetWithin, WorkWithin, Wired};
 ghost use Rattle.net.specs.Limits.{most_ticks, most_units};
 
@@ -10,7 +10,7 @@ pub mod changes;
 pub mod reads;
 
 // The net of a rack. Its bounds hold of every net there can be, whatever rack it is put together with.
-#[derive(Clone, Copy)]
+#[derive(Clone, Copy, PartialEq, Eq, Debug)]
 pub struct Net {
     count: u8,
     ticks: u32,
@@ -19,7 +19,7 @@ pub struct Net {
     ghost few: { count ≤ most_units },
     ghost early: { ticks ≤ most_ticks },
     ghost four: { length outside ≡ 4 },
-    ghost emitted: { AllWithin (NetWithin ticks) table.records 0 most_units },
-    ghost worked: { AllWithin (WorkWithin ticks) table.records 0 most_units },
-    ghost wired: { AllWithin (Wired count) table.records 0 most_units },
+    ghost emitted: { All (NetWithin ticks) table.records },
+    ghost worked: { All (WorkWithin ticks) table.records },
+    ghost wired: { All (Wired count) table.records },
 }

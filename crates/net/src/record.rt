@@ -1,5 +1,5 @@
 ghost use Rattle.std.specs.Prelude.{◌≡◌, ◌*◌, ◌<◌, ◌≤◌, Some, MatchOption, unsigned_abs};
-ghost use Rattle.net.specs.Records.{emptied, cleared, with_x, with_y, Emitted, FirstFree, Taken};
+ghost use Rattle.net.specs.Records.{emptied, cleared, with_x, with_y, Emitted, FirstFree};
 ghost use Rattle.net.specs.Limits.{most_ticks};
 ghost use Rattle.unit.specs.Sizes.{largest};
 
@@ -7,7 +7,7 @@ use unit::pulse::Pulse;
 use wires::tap::Tap;
 
 // What the net keeps for one unit: its taps, the pulse on its line, its net pulses and its work.
-#[derive(Clone, Copy)]
+#[derive(Clone, Copy, PartialEq, Eq, Debug)]
 pub struct Record {
     pub x: Option<Tap>,
     pub y: [Option<Tap>; 4],
@@ -32,15 +32,11 @@ impl Record {
         requires more { unsigned_abs work ≤ largest }
         ensures { Emitted self pulse work result }
     {
-        let y = self.y;
-        let net = self.net + i64::from(pulse.value());
-        let work = self.work + work;
         Record {
-            x: self.x,
-            y,
             line: pulse,
-            net,
-            work,
+            net: self.net + i64::from(i8::from(pulse)),
+            work: self.work + work,
+            ..self
         }
     }
 
@@ -48,13 +44,11 @@ impl Record {
     pub fn emptied(self) -> Record
         ensures { result ≡ emptied self }
     {
-        let y = self.y;
         Record {
-            x: self.x,
-            y,
             line: Pulse::Zero,
             net: 0,
             work: 0,
+            ..self
         }
     }
 
@@ -65,57 +59,32 @@ impl Record {
         Record {
             x: None,
             y: [None; 4],
-            line: self.line,
-            net: self.net,
-            work: self.work,
+            ..self
         }
     }
 
     pub fn with_x(self, tap: Tap) -> Record
         ensures { result ≡ with_x self tap }
     {
-        let y = self.y;
         Record {
             x: Some(tap),
-            y,
-            line: self.line,
-            net: self.net,
-            work: self.work,
+            ..self
         }
     }
 
     // The tap at the y place k.
-    pub fn with_y(self, k: usize, tap: Tap) -> Record
+    pub fn with_y(mut self, k: usize, tap: Tap) -> Record
         requires { k < 4 }
         ensures { result ≡ with_y self k tap }
     {
-        let mut y = self.y;
-        y[k] = Some(tap);
-        Record {
-            x: self.x,
-            y,
-            line: self.line,
-            net: self.net,
-            work: self.work,
-        }
+        self.y[k] = Some(tap);
+        self
     }
 
     // The first y place that has no tap.
     pub fn free_y(&self) -> Option<usize>
         ensures { FirstFree self.now.y result }
     {
-        first_free(&self.y)
+        self.y.iter().position(|tap| tap.is_none())
     }
-}
-
-fn first_free(y: &[Option<Tap>; 4]) -> Option<usize>
-    ensures { FirstFree y.now result }
-{
-    for k in 0..4 {
-        let tap = y[k];
-        if tap.is_none() {
-            return Some(k);
-        }
-    }
-    None
 }

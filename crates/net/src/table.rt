@@ -4,9 +4,10 @@ ghost use Rattle.net.specs.Records.{record_at, blank};
 ghost use Rattle.net.specs.Tables.{Emptied};
 
 use crate::record::Record;
+use unit::pulse::Pulse;
 
-// The records of all places of a rack.
-#[derive(Clone, Copy)]
+// The records of all places of a rack, whether a unit stands there or not: an array with a put of its own, as the rules want it.
+#[derive(Clone, Copy, PartialEq, Eq, Debug)]
 pub struct Table {
     records: [Record; 64],
     ghost full: { length records ≡ most_units },
@@ -21,11 +22,21 @@ impl Table {
         }
     }
 
-    pub fn get(&self, i: usize) -> Record
+    // A place stays a number below 64, without a type of its own: the rack is indexed by it too, and needs its own bound.
+    pub fn get(&self, i: usize) -> &Record
         requires { i < most_units }
-        ensures { result ≡ record_at self.now.records i }
+        ensures { result.now ≡ record_at self.now.records i }
     {
-        self.records[i]
+        &self.records[i]
+    }
+
+    // The pulse on the line of the unit at place i, which is nothing past the last place.
+    pub fn line(&self, i: usize) -> Pulse
+        ensures { result ≡ (record_at self.now.records i).line }
+    {
+        self.records
+            .get(i)
+            .map_or(Pulse::Zero, |record| record.line)
     }
 
     pub fn put(&mut self, i: usize, record: Record)
@@ -39,9 +50,8 @@ impl Table {
     pub fn empty(&mut self)
         ensures { Emptied self.old.records most_units self.new.records }
     {
-        for i in 0..64 {
-            let record = self.get(i).emptied();
-            self.put(i, record);
+        for record in self.records.iter_mut() {
+            *record = record.emptied();
         }
     }
 }

@@ -11,6 +11,7 @@ use unit::refusal::TextFault;
 pub fn patch_check(text: &[u8]) -> u32
     ensures { Verdict text.now result }
 {
+    // no plainer by `map_or_else`, which names the fault first
     match parsed(text) {
         Ok(_) => 0,
         Err(fault) => pack(fault),
@@ -20,7 +21,7 @@ pub fn patch_check(text: &[u8]) -> u32
 fn pack(fault: TextFault) -> u32
     ensures { result ≡ packed fault.refusal fault.line }
 {
-    u32::from(fault.refusal.number()) * 65536 + u32::from(fault.line)
+    u32::from(u8::from(fault.refusal)) * 65536 + u32::from(fault.line)
 }
 
 #[cfg(test)]

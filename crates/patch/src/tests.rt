@@ -4,7 +4,6 @@ use lines::taken::frame_at;
 use reader::read::read;
 use sheet::parts::MakeFigures;
 use sheet::sheet::Sheet;
-use std::process::Abort;
 use std::test::Fail;
 use unit::refusal::Refusal;
 use writer::write::write;
@@ -12,16 +11,6 @@ use writer::write::write;
 // An integrator of length 2 at 1 that feeds itself, and a servo of limit 4 at -2, inverted and divided by 3, that reads it twice.
 const PAIR: &[u8] =
     b"P02\nI000200000001000000000100\nS0100000004FFFFFFFE0301\nX000050\nY000000\nX010150\nY010000\nY010100\nG00000C000003\n";
-
-fn no_frame(rt: &impl Abort, text: &[u8], line: usize, refusal: Refusal) -> Result<(), Fail> {
-    match frame_at(text, line) {
-        Ok(_) => Err(Fail::new("a frame")),
-        Err(found) => {
-            assert_eq!(rt; found, refusal);
-            Ok(())
-        }
-    }
-}
 
 // The digits are that part of the text, from the byte after the letter on.
 #[test]
@@ -36,8 +25,9 @@ fn frames_by_line(rt: HostRuntime) -> Result<(), Fail> {
     };
     assert_eq!(rt; digits.at, 31);
     assert_eq!(rt; digits.bytes, b"0100000004FFFFFFFE0301".as_slice());
-    no_frame(&rt, PAIR, 0, Refusal::NotThere)?;
-    no_frame(&rt, PAIR, 10, Refusal::NotThere)
+    assert_eq!(rt; frame_at(PAIR, 0), Err(Refusal::NotThere));
+    assert_eq!(rt; frame_at(PAIR, 10), Err(Refusal::NotThere));
+    Ok(())
 }
 
 // A last line without a line feed counts, and the text need not be a patch.
@@ -48,12 +38,13 @@ fn frames_of_any_text(rt: HostRuntime) -> Result<(), Fail> {
     };
     assert_eq!(rt; digits.at, 15);
     assert_eq!(rt; digits.bytes, b"3FFFFF".as_slice());
-    no_frame(&rt, b"", 1, Refusal::NotThere)?;
-    no_frame(&rt, b"P01\n", 2, Refusal::NotThere)?;
-    no_frame(&rt, b"P01\n\nP01\n", 2, Refusal::FrameOrder)?;
-    no_frame(&rt, b"Q01", 1, Refusal::FrameOrder)?;
-    no_frame(&rt, b"P1", 1, Refusal::FrameDigits)?;
-    no_frame(&rt, b"X00005a", 1, Refusal::FrameDigits)
+    assert_eq!(rt; frame_at(b"", 1), Err(Refusal::NotThere));
+    assert_eq!(rt; frame_at(b"P01\n", 2), Err(Refusal::NotThere));
+    assert_eq!(rt; frame_at(b"P01\n\nP01\n", 2), Err(Refusal::FrameOrder));
+    assert_eq!(rt; frame_at(b"Q01", 1), Err(Refusal::FrameOrder));
+    assert_eq!(rt; frame_at(b"P1", 1), Err(Refusal::FrameDigits));
+    assert_eq!(rt; frame_at(b"X00005a", 1), Err(Refusal::FrameDigits));
+    Ok(())
 }
 
 #[test]

@@ -3,10 +3,9 @@ ghost use Rattle.frames.specs.Faults.{Extent};
 ghost use Rattle.std.specs.Prelude.{MatchBool};
 ghost use Rattle.reader.specs.Answers.{Parsed, ReadInto, OnlyAnswer, FirstFault};
 
-use crate::phases::{read_count, read_taps, read_units, wrong};
+use crate::phases::{Ending, read_count, read_taps, read_units, wrong};
 use lines::reader::LineReader;
 use sheet::sheet::Sheet;
-use sheet::sheet::views::{BLANK_PLUG, BLANK_UNIT};
 use unit::refusal::{Refusal, TextFault};
 
 // Reads a patch text into the sheet. A text is accepted exactly when it is the text of some sheet, and then it is that one; a refused
@@ -16,13 +15,8 @@ pub fn read(text: &[u8], sheet: &mut Sheet) -> Result<(), TextFault>
     ensures only { OnlyAnswer text.now result sheet.new }
     ensures first { FirstFault text.now result }
 {
-    match parsed(text) {
-        Ok(found) => {
-            *sheet = found;
-            Ok(())
-        }
-        Err(fault) => Err(fault),
-    }
+    *sheet = parsed(text)?;
+    Ok(())
 }
 
 // The sheet of a text, or its first fault.
@@ -37,19 +31,17 @@ pub fn parsed(text: &[u8]) -> Result<Sheet, TextFault>
     }
     let mut lines = LineReader::new(text);
     let count = read_count(&mut lines)?;
-    let mut units = [BLANK_UNIT; 64];
-    read_units(&mut lines, count, &mut units)?;
-    let mut plugs = [BLANK_PLUG; 320];
-    let ending = read_taps(&mut lines, &units[0..count as usize], &mut plugs)?;
-    if let Some(_) = lines.next() {
-        return Err(wrong(&lines, Refusal::FrameOrder));
+    let units = read_units(&mut lines, count)?;
+    let Ending { plugs, ticks, step } = read_taps(&mut lines, &units)?;
+    if lines.next().is_some() {
+        return Err(wrong(lines.lines(), Refusal::FrameOrder));
     }
-    Ok(Sheet::of_parts(count, units, ending.taps, plugs, ending.ticks, ending.step))
+    Ok(Sheet::of_parts(units, plugs, ticks, step))
 }
 
 // Whether a text is not empty, not too long, and ends in a line feed.
 fn has_extent(text: &[u8]) -> bool
     ensures { MatchBool result (Extent text.now) (Extent text.now → ⊥) }
 {
-    text.len() > 0 && text.len() <= 8192 && text[text.len() - 1] == b'\n'
+    (1..=8192).contains(&text.len()) && text.ends_with(b"\n")
 }

@@ -16,7 +16,7 @@ spaced_more zs i h fits =
     rw (to_z-of_z w64 (get_or zs i (pos 0)) fits)
     (ap spaced (take_more zs i (pos 0) h) ∙ sym (flat_map_more (λ z. 32 ∷ signed_decimal z) [] (take i zs) (get_or zs i (pos 0))))
 
-pub length_more : (zs : List ℤ) (i : ℕ) → i < length zs → SFits w64 (get_or zs i (pos 0)) → length (spaced (take (i + 1) zs)) ≡ length (spaced (take i zs)) + length (signed_decimal (passed zs i)) + 1
+length_more : (zs : List ℤ) (i : ℕ) → i < length zs → SFits w64 (get_or zs i (pos 0)) → length (spaced (take (i + 1) zs)) ≡ length (spaced (take i zs)) + length (signed_decimal (passed zs i)) + 1
 length_more zs i h fits = omega (arith, simp length-append at (ap length (spaced_more zs i h fits)))
 
 spaced_within : (zs : List ℤ) (i : ℕ) → length (spaced (take i zs)) ≤ length (spaced zs)
@@ -33,8 +33,9 @@ pub length-row : (zs : List ℤ) → length (row_bytes zs) ≡ max (length (spac
 length-row [] = refl
 length-row (z ∷ zs) = simp length-append (omega arith)
 
+pub row_none : (zs : List ℤ) → length zs < 1 → row_bytes zs ≡ 10 ∷ []
+row_none [] h = refl
+row_none (z ∷ zs) h = absurd (omega arith)
+
 pub row_parts : (zs : List ℤ) → 0 < length zs → SFits w64 (get_or zs 0 (pos 0)) → row_bytes zs ≡ signed_decimal (passed zs 0) ++ (spaced (between 1 (length zs) zs) ++ 10 ∷ [])
 row_parts zs h fits = rw (to_z-of_z w64 (get_or zs 0 (pos 0)) fits) (ap row_bytes (first_rest zs (pos 0) h))
-
-pub length-parts : (zs : List ℤ) → 0 < length zs → SFits w64 (get_or zs 0 (pos 0)) → length (row_bytes zs) ≡ length (signed_decimal (passed zs 0)) + length (spaced (between 1 (length zs) zs)) + 1
-length-parts zs h fits = omega (arith, simp length-append at (ap length (row_parts zs h fits)))

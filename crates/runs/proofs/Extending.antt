@@ -79,7 +79,7 @@ module _ {U : Type 0} (figures : U → Figures) (law : (u : U) → Lawful (figur
     share = t.each i below u
 
     taps : T (tap_there n.count (record_at n.table.records i).x) × T (taps_there n.count (record_at n.table.records i).y)
-    taps = both _ _ (n.wired i blank (omega arith) (let f = n.few in let b = below in omega arith))
+    taps = both _ _ (n.wired i blank (let f = n.few in let b = below in omega arith))
 
     tally_is : ticks.tally n i ≡ runs.tally (lines h) (next_fed n) w.y
     tally_is = sum_is figures ws h us n d (record_at n.table.records i).y taps.1 ∙ ap (runs.tally (lines h) (next_fed n)) before.y

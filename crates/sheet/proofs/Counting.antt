@@ -24,7 +24,7 @@ of_unit u p k s (Servo l) = record { unit = refl; other = refl; no_tap = λ v. r
 pub unit_is : (u : ℕ) (x : UnitFigures) → OfUnit (unit_frame u x)
 unit_is u x = of_unit u _ _ _ x.make
 
-one_more : (kind : Frame → Bool) (f : Frame) (above : List Frame) → kind f ≡ true → how_many kind (f ∷ above) ≡ suc (how_many kind above)
+pub one_more : (kind : Frame → Bool) (f : Frame) (above : List Frame) → kind f ≡ true → how_many kind (f ∷ above) ≡ suc (how_many kind above)
 one_more kind f above e = ap (λ b. length (cond b (f ∷ filter kind above) (filter kind above))) e
 
 pub no_more : (kind : Frame → Bool) (f : Frame) (above : List Frame) → kind f ≡ false → how_many kind (f ∷ above) ≡ how_many kind above

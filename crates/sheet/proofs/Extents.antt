@@ -6,6 +6,7 @@ use Rattle.frames.specs.Rules.{Complete}
 use Rattle.frames.proofs.Lengths.{length-text_more, text_extent}
 use Rattle.sheet.specs.Patches.{make_frame, unit_frame, tap_frame, unit_frames, tap_frames, blank_unit, blank_plug}
 use Rattle.sheet.specs.Texts.{frames_of, written}
+use Rattle.sheet.specs.Views.{units_of, taps_of}
 use Rattle.sheet.specs.declared.parts.MakeFigures.{MakeFigures}
 use Rattle.sheet.specs.declared.parts.MakeFigures.TheVariants.{Integrator, Servo}
 use Rattle.sheet.specs.declared.parts.Plug.{Plug}
@@ -14,11 +15,11 @@ use Rattle.sheet.specs.declared.sheet.Sheet.{Sheet}
 use Rattle.sheet.proofs.Counting.{units_open, taps_open}
 use Rattle.sheet.proofs.Sheets.{few}
 
-make_width : (u p k s : ℕ) (m : MakeFigures) → sum (widths (make_frame u m p k s)) ≤ 24
+pub make_width : (u p k s : ℕ) (m : MakeFigures) → sum (widths (make_frame u m p k s)) ≤ 24
 make_width u p k s (Integrator n r) = omega arith
 make_width u p k s (Servo l) = omega arith
 
-unit_width : (u : ℕ) (x : UnitFigures) → sum (widths (unit_frame u x)) ≤ 24
+pub unit_width : (u : ℕ) (x : UnitFigures) → sum (widths (unit_frame u x)) ≤ 24
 unit_width u x = make_width u _ _ _ x.make
 
 pub units_length : (c : ℕ) (us : List UnitFigures) (k : ℕ) → length (text (unit_frames c us k)) ≤ 4 + 26 * k
@@ -31,9 +32,14 @@ taps_length above ps (suc n) = omega (arith, length-text_more (tap_frame (get_or
 
 pub sheet_extent : (s : Sheet) → Extent (written s)
 sheet_extent s =
-    let above = tap_frames (unit_frames s.count s.units s.count) s.plugs s.taps in
+    let us = units_of s in
+    let ps = taps_of s in
+    let units = unit_frames (length us) us (length us) in
+    let above = tap_frames units ps (length ps) in
     text_extent (last s.ticks s.step) above
-    (omega (arith, length-text_more (last s.ticks s.step) above, taps_length (unit_frames s.count s.units s.count) s.plugs s.taps, units_length s.count s.units s.count, few s, s.fits))
+    (omega (arith, length-text_more (last s.ticks s.step) above, taps_length units ps (length ps), units_length (length us) us (length us), few s, s.room))
 
 pub sheet_complete : (s : Sheet) → Complete (frames_of s)
-sheet_complete s = ap suc (taps_open (unit_frames s.count s.units s.count) s.plugs s.taps ∙ units_open s.count s.units s.count)
+sheet_complete s =
+    let us = units_of s in
+    ap suc (taps_open (unit_frames (length us) us (length us)) (taps_of s) (length (taps_of s)) ∙ units_open (length us) us (length us))

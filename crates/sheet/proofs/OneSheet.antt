@@ -5,6 +5,7 @@ use denote.Struct.Record.{values_one}
 use Rattle.std.proofs.lemmas.List.{ext_get_or}
 use Rattle.std.proofs.lemmas.Int.{ints, to_z-of_z}
 use Rattle.std.proofs.lemmas.Bool.{and_parts, cases_lt, ltb-true}
+use Rattle.arrayvec.specs.ArrayVec.{array_vec_code}
 use Rattle.frames.specs.Frames.{Frame}
 use Rattle.frames.specs.Rules.{counted}
 use Rattle.layers.specs.Turns.{figure_of as sense_figure}
@@ -18,6 +19,7 @@ use Rattle.wires.specs.declared.tap.Sign.{Sign}
 use Rattle.wires.specs.declared.tap.Sign.TheVariants.{Plus, Minus}
 use Rattle.sheet.specs.Patches.{largest_position, unit_frame, make_frame, tap_frame, unit_frames, tap_frames, blank_unit, blank_plug}
 use Rattle.sheet.specs.Texts.{frames_of}
+use Rattle.sheet.specs.Views.{units_of, taps_of}
 use Rattle.sheet.specs.contracts.parts.Plug as plug
 use Rattle.sheet.specs.contracts.parts.UnitFigures as unit
 use Rattle.sheet.specs.contracts.sheet.Sheet as sheet
@@ -102,23 +104,23 @@ taps_apart a b ps qs (suc n) e =
     let r = taps_apart a b ps qs n tail in
     (r.0, λ i h. ⊎_elim (λ lt. r.1 i lt) (λ le. let q : n ≡ i = omega arith in subst (λ k. tap_frame (get_or ps k blank_plug) ≡ tap_frame (get_or qs k blank_plug)) q head) (cases_lt i n))
 
--- a list whose used places are known, and whose spare ones are blank
-same_places : {X : Type 0} (blank : X) (n : ℕ) (xs ys : List X) → length xs ≡ length ys → ((i : ℕ) → i < n → get_or xs i blank ≡ get_or ys i blank) → ((i : ℕ) → n ≤ i → get_or xs i blank ≡ blank) → ((i : ℕ) → n ≤ i → get_or ys i blank ≡ blank) → xs ≡ ys
-same_places blank n xs ys l used spare spare' = ext_get_or blank xs ys l (λ i h. ⊎_elim (used i) (λ le. spare i le ∙ sym (spare' i le)) (cases_lt i n))
-
 pub one_sheet : (r s : Sheet) → frames_of r ≡ frames_of s → r ≡ s
 one_sheet r s e =
+    let us = units_of r in
+    let vs = units_of s in
+    let ps = taps_of r in
+    let qs = taps_of s in
     let ticks : r.ticks ≡ s.ticks = cc in
     let step : r.step ≡ s.step = cc in
-    let tail : tap_frames (unit_frames r.count r.units r.count) r.plugs r.taps ≡ tap_frames (unit_frames s.count s.units s.count) s.plugs s.taps = cc in
-    let count : r.count ≡ s.count = sym (frames_counted r.count r.units r.taps r.plugs r.ticks r.step) ∙ ap counted e ∙ frames_counted s.count s.units s.taps s.plugs s.ticks s.step in
-    let taps : r.taps ≡ s.taps =
-    omega (arith, ap length tail, taps_long (unit_frames r.count r.units r.count) r.plugs r.taps, taps_long (unit_frames s.count s.units s.count) s.plugs s.taps, units_long r.count r.units r.count, units_long s.count s.units s.count) in
-    let p = taps_apart (unit_frames r.count r.units r.count) (unit_frames s.count s.units s.count) r.plugs s.plugs s.taps (subst (λ n. tap_frames (unit_frames r.count r.units r.count) r.plugs n ≡ tap_frames (unit_frames s.count s.units s.count) s.plugs s.taps) taps tail) in
-    let u = units_apart s.count r.units s.units s.count (subst (λ n. unit_frames n r.units n ≡ unit_frames s.count s.units s.count) count p.0) in
-    let units : r.units ≡ s.units = same_places blank_unit s.count r.units s.units (r.sixty_four ∙ sym s.sixty_four) (λ i h. same_unit i (get_or r.units i blank_unit) (get_or s.units i blank_unit) (r.placed i (omega arith)) (s.placed i h) (u i h)) (λ i h. r.spare_units i (omega arith)) s.spare_units in
-    let plugs : r.plugs ≡ s.plugs = same_places blank_plug s.taps r.plugs s.plugs (r.room ∙ sym s.room) (λ i h. same_plug s.count (get_or r.plugs i blank_plug) (get_or s.plugs i blank_plug) (subst (λ n. there n (get_or r.plugs i blank_plug).tap.source ≡ true) count (r.sourced i (omega arith))) (s.sourced i h) (p.1 i h)) (λ i h. r.spare_plugs i (omega arith)) s.spare_plugs in
-    values_one struct (the_propositions (unit.the_row).coded (plug.the_row).coded) r s (λ i. (count i, (units i, (taps i, (plugs i, (ticks i, (step i, tt)))))))
+    let tail : tap_frames (unit_frames (length us) us (length us)) ps (length ps) ≡ tap_frames (unit_frames (length vs) vs (length vs)) qs (length qs) = cc in
+    let count : length us ≡ length vs = sym (frames_counted us ps r.ticks r.step) ∙ ap counted e ∙ frames_counted vs qs s.ticks s.step in
+    let taps : length ps ≡ length qs =
+    omega (arith, ap length tail, taps_long (unit_frames (length us) us (length us)) ps (length ps), taps_long (unit_frames (length vs) vs (length vs)) qs (length qs), units_long (length us) us (length us), units_long (length vs) vs (length vs)) in
+    let p = taps_apart (unit_frames (length us) us (length us)) (unit_frames (length vs) vs (length vs)) ps qs (length qs) (subst (λ n. tap_frames (unit_frames (length us) us (length us)) ps n ≡ tap_frames (unit_frames (length vs) vs (length vs)) qs (length qs)) taps tail) in
+    let u = units_apart (length vs) us vs (length vs) (subst (λ n. unit_frames n us n ≡ unit_frames (length vs) vs (length vs)) count p.0) in
+    let units : us ≡ vs = ext_get_or blank_unit us vs count (λ i h. same_unit i (get_or us i blank_unit) (get_or vs i blank_unit) (r.placed i blank_unit h) (s.placed i blank_unit (omega arith)) (u i (omega arith))) in
+    let plugs : ps ≡ qs = ext_get_or blank_plug ps qs taps (λ i h. same_plug (length vs) (get_or ps i blank_plug) (get_or qs i blank_plug) (subst (λ n. there n (get_or ps i blank_plug).tap.source ≡ true) count (r.sourced i blank_plug h)) (s.sourced i blank_plug (omega arith)) (p.1 i (omega arith))) in
+    values_one struct (the_propositions (array_vec_code (unit.the_row).coded) (unit.the_row).coded (array_vec_code (plug.the_row).coded) (plug.the_row).coded) r s (λ i. (record { items = units i }, (record { items = plugs i }, (ticks i, (step i, tt)))))
 
 pub sheet_set : (r s : Sheet) → IsProp (r ≡ s)
 sheet_set r s = Coded-set (sheet.the_row).coded r s

@@ -1,5 +1,5 @@
 -- What the lawful frames of a patch say of its figures; the blank sheet's are lawful.
-use Rattle.std.proofs.Common.{◌≡◌, ℕ, zero, suc, ◌≤◌, List, [], ◌∷◌, get_or, replicate, refl, ◌∙◌, subst, arith}
+use Rattle.std.proofs.Common.{◌≡◌, ℕ, ◌≤◌, List, [], ◌∷◌, length, refl, ◌∙◌, subst, arith}
 use mathlib.Core.Logic.{∥∥₁_elim}
 use native.Mathlib.Bridge.{le_prop}
 use Rattle.std.proofs.lemmas.Int.{ints}
@@ -11,14 +11,15 @@ use Rattle.sheet.specs.Patches.{frames, unit_frames}
 use Rattle.sheet.specs.declared.parts.Plug.{Plug}
 use Rattle.sheet.specs.declared.parts.UnitFigures.{UnitFigures}
 use Rattle.sheet.specs.Texts.{frames_of}
+use Rattle.sheet.specs.Views.{units_of, taps_of}
 use Rattle.sheet.specs.declared.sheet.Sheet.{Sheet}
 use Rattle.sheet.proofs.Counting.{units_counted, taps_counted}
 
-pub frames_counted : (c : ℕ) (us : List UnitFigures) (n : ℕ) (ps : List Plug) (t q : ℕ) → counted (frames c us n ps t q) ≡ c
-frames_counted c us n ps t q = taps_counted (unit_frames c us c) ps n ∙ units_counted c us c
+pub frames_counted : (us : List UnitFigures) (ps : List Plug) (t q : ℕ) → counted (frames us ps t q) ≡ length us
+frames_counted us ps t q = taps_counted (unit_frames (length us) us (length us)) ps (length ps) ∙ units_counted (length us) us (length us)
 
-pub few : (s : Sheet) → s.count ≤ 64
-few s = ∥∥₁_elim s.lawful le_prop (λ l. subst (λ k. k ≤ 64) (frames_counted s.count s.units s.taps s.plugs s.ticks s.step) (counted_few (frames_of s) l))
+pub few : (s : Sheet) → length (units_of s) ≤ 64
+few s = ∥∥₁_elim s.lawful le_prop (λ l. subst (λ k. k ≤ 64) (frames_counted (units_of s) (taps_of s) s.ticks s.step) (counted_few (frames_of s) l))
 
 pub blank_lawful : Lawful (last 0 1 ∷ integrator 0 1 0 0 1 0 ∷ count 1 ∷ [])
 blank_lawful = (
@@ -43,8 +44,3 @@ blank_lawful = (
   ),
   record { expected = record { some = omega arith; all = refl; open_end = refl }; fits = (omega arith, (omega arith, tt)); ordered = tt; ranged = omega arith; sourced = tt },
 )
-
-pub past_blank : {X : Type 0} (x : X) (n i : ℕ) → get_or (replicate n x) i x ≡ x
-past_blank x zero i = refl
-past_blank x (suc n) zero = refl
-past_blank x (suc n) (suc i) = past_blank x n i

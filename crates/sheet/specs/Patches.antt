@@ -1,5 +1,6 @@
 -- The frames that a patch is written in, from the bottom one up.
-use Rattle.std.specs.Prelude.{◌≡◌, ℕ, zero, suc, ◌<◌, ◌≤◌, true, List, [], ◌∷◌, pos, slice_index_or, unsigned_abs}
+use Rattle.std.specs.Prelude.{◌≡◌, ℕ, zero, suc, ◌≤◌, true, List, [], ◌∷◌, length, pos, slice_index_or, unsigned_abs}
+use Rattle.std.specs.List.{All}
 use Rattle.std.specs.Int.{w32}
 use Rattle.std.proofs.Common.{of_z}
 use Rattle.frames.specs.Frames.{Frame, count, integrator, servo, tap, last}
@@ -31,10 +32,11 @@ unit_frame u x = make_frame u x.make (of_z w32 x.position) x.divisor (sense_figu
 abbrev pub tap_frame : Plug → Frame
 tap_frame p = tap p.input p.unit (sign_figure p.tap.sign) (code_of p.tap.source)
 
--- what stands in the places that a sheet does not use; a unit of it is also that of the blank sheet
+-- the unit of the blank sheet
 abbrev pub blank_unit : UnitFigures
 blank_unit = record { make = Integrator 1 0; position = pos 0; divisor = 1; sense = Upright }
 
+-- what a place beyond the last tap reads as
 abbrev pub blank_plug : Plug
 blank_plug = record { unit = 0; input = X; tap = record { sign = Plus; source = Place 0 } }
 
@@ -49,15 +51,20 @@ tap_frames above ps zero = above
 tap_frames above ps (suc k) = tap_frame (slice_index_or ps k blank_plug) ∷ tap_frames above ps k
 
 -- the count, the units by their numbers, the taps, and the last frame
-abbrev pub frames : ℕ → List UnitFigures → ℕ → List Plug → ℕ → ℕ → List Frame
-frames c us n ps ticks step = last ticks step ∷ tap_frames (unit_frames c us c) ps n
+abbrev pub frames : List UnitFigures → List Plug → ℕ → ℕ → List Frame
+frames us ps ticks step = last ticks step ∷ tap_frames (unit_frames (length us) us (length us)) ps (length ps)
 
--- A lawful patch: its frames keep the rules, its positions and sources are as their frames say them, and the places that it does
--- not use are blank.
-pub record LawfulPatch (c : ℕ) (us : List UnitFigures) (n : ℕ) (ps : List Plug) (ticks step : ℕ) : Type 0 where
-  pub room : n ≤ 320
-  pub lawful : Lawful (frames c us n ps ticks step)
-  pub placed : (i : ℕ) → i < c → unsigned_abs (slice_index_or us i blank_unit).position ≤ largest_position
-  pub sourced : (i : ℕ) → i < n → there c (slice_index_or ps i blank_plug).tap.source ≡ true
-  pub spare_units : (i : ℕ) → c ≤ i → slice_index_or us i blank_unit ≡ blank_unit
-  pub spare_plugs : (i : ℕ) → n ≤ i → slice_index_or ps i blank_plug ≡ blank_plug
+-- a position that some make has
+abbrev pub Placed : UnitFigures → Type 0
+Placed x = unsigned_abs x.position ≤ largest_position
+
+-- the source of a tap is there, among c units
+abbrev pub HasSource : ℕ → Plug → Type 0
+HasSource c p = there c p.tap.source ≡ true
+
+-- A lawful patch: its frames keep the rules, and its positions and sources are as its frames say them.
+pub record LawfulPatch (us : List UnitFigures) (ps : List Plug) (ticks step : ℕ) : Type 0 where
+  pub room : length ps ≤ 320
+  pub lawful : Lawful (frames us ps ticks step)
+  pub placed : All Placed us
+  pub sourced : All (HasSource (length us)) ps

@@ -5,7 +5,7 @@ use Rattle.sheet.specs.Patches.{frames}
 use Rattle.sheet.specs.declared.sheet.Sheet.{Sheet}
 
 abbrev pub frames_of : Sheet → List Frame
-frames_of s = frames s.count s.units s.taps s.plugs s.ticks s.step
+frames_of s = frames s.units.items s.plugs.items s.ticks s.step
 
 abbrev pub written : Sheet → List ℕ
 written s = text (frames_of s)

@@ -1,6 +1,7 @@
 // What a sheet says of one unit and of one tap.
 use layers::turn::Sense;
-use wires::tap::{Input, Tap};
+use wires::source::Source;
+use wires::tap::{Input, Sign, Tap};
 
 // The figures that only one make has.
 #[derive(Clone, Copy, PartialEq, Eq, Debug)]
@@ -18,10 +19,49 @@ pub struct UnitFigures {
     pub sense: Sense,
 }
 
+// An upright integrator of length 1 at 0, as the blank sheet has it.
+impl Default for UnitFigures {
+    ghost use Rattle.std.specs.Prelude.{◌≡◌};
+    ghost use Rattle.sheet.specs.Patches.{blank_unit};
+
+    ghost is_default = { λ x. x ≡ blank_unit };
+
+    fn default() -> Self {
+        UnitFigures {
+            make: MakeFigures::Integrator {
+                length: 1,
+                residue: 0,
+            },
+            position: 0,
+            divisor: 1,
+            sense: Sense::Upright,
+        }
+    }
+}
+
 // A tap, and the unit and the input that it is plugged into.
 #[derive(Clone, Copy, PartialEq, Eq, Debug)]
 pub struct Plug {
     pub unit: u8,
     pub input: Input,
     pub tap: Tap,
+}
+
+// An x tap of unit 0 that reads unit 0 as it is.
+impl Default for Plug {
+    ghost use Rattle.std.specs.Prelude.{◌≡◌};
+    ghost use Rattle.sheet.specs.Patches.{blank_plug};
+
+    ghost is_default = { λ p. p ≡ blank_plug };
+
+    fn default() -> Self {
+        Plug {
+            unit: 0,
+            input: Input::X,
+            tap: Tap {
+                sign: Sign::Plus,
+                source: Source::Place(0),
+            },
+        }
+    }
 }

@@ -1,28 +1,129 @@
-ghost use Rattle.std.specs.Prelude.{◌≡◌, ℕ, ◌<◌, ◌≤◌, true, length, slice_index_or, unsigned_abs};
+ghost use Rattle.std.specs.Prelude.{◌≡◌, ◌≤◌, length};
+ghost use Rattle.std.specs.List.{All};
 ghost use Rattle.frames.specs.Rules.{Lawful};
-ghost use Rattle.wires.specs.Sources.{there};
-ghost use Rattle.sheet.specs.Patches.{frames, largest_position, blank_unit, blank_plug};
+ghost use Rattle.sheet.specs.Patches.{frames, LawfulPatch, Placed, HasSource};
 
 use crate::parts::{Plug, UnitFigures};
-
-pub mod views;
+use arrayvec::ArrayVec;
+use std::alloc::AllocError;
 
 // A patch sheet. Its frames keep all the rules of a patch text (`lawful`); positions and sources are those that the numbers in the
-// frames stand for (`placed`, `sourced`); and unused places are blank, so that two sheets of the same patch are equal.
-#[derive(Clone, Copy)]
+// frames stand for (`placed`, `sourced`); and `room` is the capacity of the taps, which their value in a clause does not show.
+#[derive(PartialEq, Eq, Debug, Drop)]
 pub struct Sheet {
-    count: u8,
-    units: [UnitFigures; 64],
-    taps: u16,
-    plugs: [Plug; 320],
+    units: ArrayVec<UnitFigures, 64>,
+    plugs: ArrayVec<Plug, 320>,
     ticks: u32,
     step: u32,
-    ghost sixty_four: { length units ≡ 64 },
-    ghost room: { length plugs ≡ 320 },
-    ghost fits: { taps ≤ 320 },
-    ghost lawful: { ∥ Lawful (frames count units taps plugs ticks step) ∥₁ },
-    ghost placed: { (i : ℕ) → i < count → unsigned_abs (slice_index_or units i blank_unit).position ≤ largest_position },
-    ghost sourced: { (i : ℕ) → i < taps → there count (slice_index_or plugs i blank_plug).tap.source ≡ true },
-    ghost spare_units: { (i : ℕ) → count ≤ i → slice_index_or units i blank_unit ≡ blank_unit },
-    ghost spare_plugs: { (i : ℕ) → taps ≤ i → slice_index_or plugs i blank_plug ≡ blank_plug },
+    ghost room: { length plugs.items ≤ 320 },
+    ghost lawful: { ∥ Lawful (frames units.items plugs.items ticks step) ∥₁ },
+    ghost placed: { All Placed units.items },
+    ghost sourced: { All (HasSource (length units.items)) plugs.items },
+}
+
+impl Sheet {
+    ghost use Rattle.sheet.specs.Texts.{frames_of};
+    ghost use Rattle.sheet.specs.Views.{Blank, UnitTold, units_of, taps_of, unit_taps};
+
+    // One upright integrator of length 1 at 0, no taps, no ticks, step 1.
+    pub fn blank() -> Sheet
+        ensures { Blank result }
+    {
+        let mut units = ArrayVec::new();
+        units.push(UnitFigures::default());
+        Sheet {
+            units,
+            plugs: ArrayVec::new(),
+            ticks: 0,
+            step: 1,
+        }
+    }
+
+    // The sheet of a patch that is known to be lawful; for the reader of patch texts.
+    pub fn of_parts(
+        units: ArrayVec<UnitFigures, 64>,
+        plugs: ArrayVec<Plug, 320>,
+        ticks: u32,
+        step: u32,
+    ) -> Sheet
+        requires { LawfulPatch units.items plugs.items ticks step }
+        ensures { frames_of result ≡ frames units.items plugs.items ticks step }
+    {
+        Sheet {
+            units,
+            plugs,
+            ticks,
+            step,
+        }
+    }
+
+    // How many units the patch has.
+    pub fn count(&self) -> u8
+        ensures { result ≡ length (units_of self.now) }
+    {
+        self.units.len() as u8
+    }
+
+    // The figures of one unit, if the patch has it.
+    pub fn unit(&self, unit: u8) -> Option<UnitFigures>
+        ensures { UnitTold self.now unit result }
+    {
+        self.units.get(unit as usize).copied()
+    }
+
+    // The figures of all units, by their numbers.
+    pub fn units(&self) -> &[UnitFigures]
+        ensures { result.now ≡ units_of self.now }
+    {
+        &self.units
+    }
+
+    // All taps, by rising unit, and a unit's x tap first.
+    pub fn taps(&self) -> &[Plug]
+        ensures { result.now ≡ taps_of self.now }
+    {
+        &self.plugs
+    }
+
+    // The taps of one unit, its x tap first.
+    pub fn taps_of(&self, unit: u8) -> &[Plug]
+        ensures { result.now ≡ unit_taps unit self.now }
+    {
+        let taps = self.taps();
+        let start = taps.partition_point(|plug| plug.unit < unit);
+        let end = taps.partition_point(|plug| plug.unit <= unit);
+        &taps[start..end]
+    }
+
+    // How many ticks the patch asks for.
+    pub fn ticks(&self) -> u32
+        ensures { result ≡ self.now.ticks }
+    {
+        self.ticks
+    }
+
+    // The number of ticks from one set of rows to the next.
+    pub fn step(&self) -> u32
+        ensures { result ≡ self.now.step }
+    {
+        self.step
+    }
+}
+
+// Written out, since none can be derived beside a ghost field for a type that is not `Copy`. It allocates nothing.
+impl Clone for Sheet {
+    ghost use Rattle.std.specs.Prelude.{⊤};
+
+    ghost is_clone = { λ sheet copy. copy ≡ sheet };
+
+    ghost is_infallible = { λ _. ⊤ };
+
+    fn clone(&self) -> Result<Self, AllocError> {
+        Ok(Sheet {
+            units: self.units.clone()?,
+            plugs: self.plugs.clone()?,
+            ticks: self.ticks,
+            step: self.step,
+        })
+    }
 }

@@ -1,6 +1,8 @@
 -- Lawful frames, as far as they go, are those of a patch that is not whole yet.
-use Rattle.std.proofs.Common.{◌≡◌, ℕ, ◌+◌, ◌<◌, ◌≤◌, true, ◌≢◌, List, [], ◌∷◌, length, get_or, set, replicate, pos, nat_abs, sym, refl, ap, ◌∙◌, subst, ⊎_elim, arith, length-set, w32, to_z}
-use Rattle.std.proofs.lemmas.List.{get_or-set_same, get_or-set_other}
+use Rattle.std.proofs.Common.{◌≡◌, ℕ, ◌+◌, ◌<◌, ◌≤◌, List, [], ◌∷◌, ◌++◌, length, pos, sym, refl, ap, ◌∙◌, subst, ⊎_elim, arith, w32, to_z}
+use Rattle.std.specs.List.{All}
+use Rattle.std.proofs.lemmas.List.{length_push}
+use Rattle.std.proofs.lemmas.List.Elements.{All-nil, All-push}
 use Rattle.std.proofs.lemmas.Int.{ints, of_z-to_z}
 use Rattle.std.proofs.lemmas.Bool.{cases_lt}
 use Rattle.entries.specs.Turns.{Taps}
@@ -10,14 +12,12 @@ use Rattle.entries.proofs.Turning.{add_x, add_y, no_taps_yet}
 use Rattle.frames.specs.Frames.{Frame, count, integrator, servo, tap, last, Fits}
 use Rattle.frames.specs.Rules.{Lawful, InRange, Ordered, Sourced, counted, latest, how_many, is_unit, is_last}
 use Rattle.frames.proofs.Counts.{counted_few}
-use Rattle.sheet.specs.Patches.{unit_frame, tap_frame, unit_frames, tap_frames, blank_unit, blank_plug, largest_position}
+use Rattle.sheet.specs.Patches.{unit_frame, tap_frame, unit_frames, tap_frames, Placed, HasSource}
 use Rattle.sheet.specs.declared.parts.MakeFigures.TheVariants.{Integrator, Servo}
 use Rattle.sheet.specs.declared.parts.Plug.{Plug}
 use Rattle.sheet.specs.declared.parts.UnitFigures.{UnitFigures}
 use Rattle.sheet.proofs.Counting.{units_counted, units_many, units_no_latest, taps_counted, taps_units}
-use Rattle.sheet.proofs.Sheets.{past_blank}
-use Rattle.sheet.proofs.Slices.{frames_more, taps_more}
-use Rattle.wires.specs.Sources.{there}
+use Rattle.sheet.proofs.Slices.{units_push, taps_push}
 use Rattle.wires.specs.declared.tap.Input.{Input}
 use Rattle.wires.specs.declared.tap.Input.TheVariants.{X, Y}
 
@@ -26,7 +26,7 @@ use Rattle.wires.specs.declared.tap.Input.TheVariants.{X, Y}
 pub record UnitOf (u : ℕ) (f : Frame) : Type 0 where
   pub figures : UnitFigures
   pub is : unit_frame u figures ≡ f
-  pub placed : nat_abs figures.position ≤ largest_position
+  pub placed : Placed figures
 
 integrator_of : (u n p r k s : ℕ) → Fits (integrator u n p r k s) → InRange (integrator u n p r k s) → UnitOf u (integrator u n p r k s)
 integrator_of u n p r k s h g = record {
@@ -45,7 +45,7 @@ servo_of u l p k s h g = record {
 pub record TapOf (c : ℕ) (f : Frame) : Type 0 where
   pub plug : Plug
   pub is : tap_frame plug ≡ f
-  pub sourced : there c plug.tap.source ≡ true
+  pub sourced : HasSource c plug
 
 tap_of : (above : List Frame) (i : Input) (u g t : ℕ) → InRange (tap i u g t) → Sourced above (tap i u g t) → TapOf (counted above) (tap i u g t)
 tap_of above i u g t r s = record {
@@ -54,57 +54,46 @@ tap_of above i u g t r s = record {
   sourced = s.1;
 }
 
--- k of c units, and n taps; the latest unit is u, and so many taps and y taps are its own
+-- some of c units, and taps; the latest unit is u, and so many taps and y taps are its own
 pub record Draft (a : List Frame) : Type 0 where
   pub c : ℕ
-  pub k : ℕ
-  pub n : ℕ
   pub u : ℕ
   pub taps : ℕ
   pub ys : ℕ
   pub us : List UnitFigures
   pub ps : List Plug
-  pub frames_are : a ≡ tap_frames (unit_frames c us k) ps n
-  pub long_us : length us ≡ 64
-  pub long_ps : length ps ≡ 320
-  pub few : k ≤ c
-  pub full : 0 < n → k ≡ c
-  pub room : n ≤ 320
-  pub placed : (i : ℕ) → i < k → nat_abs (get_or us i blank_unit).position ≤ largest_position
-  pub spare_us : (i : ℕ) → k ≤ i → get_or us i blank_unit ≡ blank_unit
-  pub sourced : (i : ℕ) → i < n → there c (get_or ps i blank_plug).tap.source ≡ true
-  pub spare_ps : (i : ℕ) → n ≤ i → get_or ps i blank_plug ≡ blank_plug
+  pub frames_are : a ≡ tap_frames (unit_frames c us (length us)) ps (length ps)
+  pub few : length us ≤ c
+  pub full : 0 < length ps → length us ≡ c
+  pub room : length ps ≤ 320
+  pub placed : All Placed us
+  pub sourced : All (HasSource c) ps
   pub latest_is : latest a ≡ u
-  pub so_far : Taps a u taps ys n
+  pub so_far : Taps a u taps ys (length ps)
   pub some : ys ≤ taps
   pub one_x : taps ≤ ys + 1
   pub four : ys ≤ 4
 
-pub counts : {a : List Frame} (d : Draft a) → (counted a ≡ d.c) × (how_many is_unit a ≡ d.k)
+pub counts : {a : List Frame} (d : Draft a) → (counted a ≡ d.c) × (how_many is_unit a ≡ length d.us)
 counts d =
-    let base = unit_frames d.c d.us d.k in
-    (ap counted d.frames_are ∙ taps_counted base d.ps d.n ∙ units_counted d.c d.us d.k, ap (how_many is_unit) d.frames_are ∙ taps_units base d.ps d.n ∙ units_many d.c d.us d.k)
+    let base = unit_frames d.c d.us (length d.us) in
+    let n = length d.ps in
+    (ap counted d.frames_are ∙ taps_counted base d.ps n ∙ units_counted d.c d.us (length d.us), ap (how_many is_unit) d.frames_are ∙ taps_units base d.ps n ∙ units_many d.c d.us (length d.us))
 
 start : (c : ℕ) → Draft (count c ∷ [])
 start c = record {
   c = c;
-  k = 0;
-  n = 0;
   u = 0;
   taps = 0;
   ys = 0;
-  us = replicate 64 blank_unit;
-  ps = replicate 320 blank_plug;
+  us = [];
+  ps = [];
   frames_are = refl;
-  long_us = refl;
-  long_ps = refl;
   few = omega arith;
   full = λ h. absurd (omega arith);
   room = omega arith;
-  placed = λ i h. absurd (omega arith);
-  spare_us = λ i h. past_blank blank_unit 64 i;
-  sourced = λ i h. absurd (omega arith);
-  spare_ps = λ i h. past_blank blank_plug 320 i;
+  placed = All-nil Placed;
+  sourced = All-nil (HasSource c);
   latest_is = refl;
   so_far = no_taps_yet c [] 0 0;
   some = omega arith;
@@ -112,39 +101,32 @@ start c = record {
   four = omega arith;
 }
 
-unit_step : (a : List Frame) (f : Frame) (d : Draft a) → UnitOf d.k f → d.k < d.c → d.c ≤ 64 → Draft (f ∷ a)
-unit_step a f d x lt most =
-    let k = d.k in
-    let y = x.figures in
-    let in' : k < length d.us = omega (arith, d.long_us) in
-    let none : d.n ≡ 0 = ⊎_elim (λ h. absurd (omega (arith, d.full h))) (λ h. omega arith) (cases_lt 0 d.n) in
-    let base : a ≡ unit_frames d.c d.us k = d.frames_are ∙ ap (tap_frames (unit_frames d.c d.us k) d.ps) none in
-    let is : f ∷ a ≡ unit_frames d.c (set d.us k y) (k + 1) = (λ i. sym x.is i ∷ base i) ∙ sym (frames_more d.c d.us k y in') in
+-- no tap stands yet, where a unit is still to come
+no_tap : {a : List Frame} (d : Draft a) → length d.us < d.c → a ≡ unit_frames d.c d.us (length d.us)
+no_tap d lt =
+    let none : length d.ps ≡ 0 = ⊎_elim (λ h. absurd (omega (arith, d.full h))) (λ h. omega arith) (cases_lt 0 (length d.ps)) in
+    d.frames_are ∙ ap (tap_frames (unit_frames d.c d.us (length d.us)) d.ps) none
+
+unit_step : (a : List Frame) (f : Frame) (d : Draft a) → UnitOf (length d.us) f → length d.us < d.c → Draft (f ∷ a)
+unit_step a f d x lt =
+    let us = d.us ++ x.figures ∷ [] in
+    let more = length_push d.us x.figures in
+    let is : f ∷ a ≡ unit_frames d.c us (length us) = (λ i. sym x.is i ∷ no_tap d lt i) ∙ sym (units_push d.c d.us x.figures) in
     record {
       c = d.c;
-      k = k + 1;
-      n = 0;
       u = 0;
       taps = 0;
       ys = 0;
-      us = set d.us k y;
-      ps = d.ps;
+      us = us;
+      ps = [];
       frames_are = is;
-      long_us = length-set d.us k y ∙ d.long_us;
-      long_ps = d.long_ps;
       few = omega arith;
       full = λ h. absurd (omega arith);
       room = omega arith;
-      placed = λ i lt'.
-          ⊎_elim
-          (λ below. let ne : i ≢ k = (λ e. omega arith) in subst (λ (z : UnitFigures). nat_abs z.position ≤ largest_position) (sym (get_or-set_other d.us k i y blank_unit ne)) (d.placed i below))
-          (λ at. let e : k ≡ i = omega arith in subst (λ j. nat_abs (get_or (set d.us k y) j blank_unit).position ≤ largest_position) e (subst (λ (z : UnitFigures). nat_abs z.position ≤ largest_position) (sym (get_or-set_same d.us k y blank_unit in')) x.placed))
-          (cases_lt i k);
-      spare_us = λ i le. let ne : i ≢ k = (λ e. omega arith) in get_or-set_other d.us k i y blank_unit ne ∙ d.spare_us i (omega arith);
-      sourced = λ i h. absurd (omega arith);
-      spare_ps = λ i h. d.spare_ps i (omega (arith, none));
-      latest_is = ap latest is ∙ units_no_latest d.c (set d.us k y) (k + 1);
-      so_far = subst (λ z. Taps z 0 0 0 0) (sym is) (no_taps_yet d.c (set d.us k y) (k + 1) 0);
+      placed = All-push Placed d.us x.figures d.placed x.placed;
+      sourced = All-nil (HasSource d.c);
+      latest_is = ap latest is ∙ units_no_latest d.c us (length us);
+      so_far = subst (λ z. Taps z 0 0 0 0) (sym is) (no_taps_yet d.c us (length us) 0);
       some = omega arith;
       one_x = omega arith;
       four = omega arith;
@@ -159,7 +141,7 @@ pub record Here (a : List Frame) (v n : ℕ) : Type 0 where
   pub one_x : taps ≤ ys + 1
   pub four : ys ≤ 4
 
-here : (a : List Frame) (d : Draft a) (v : ℕ) → latest a ≤ v → Here a v d.n
+here : (a : List Frame) (d : Draft a) (v : ℕ) → latest a ≤ v → Here a v (length d.ps)
 here a d v le =
     ⊎_elim
     (λ lt. record {
@@ -170,7 +152,7 @@ here a d v le =
       one_x = omega arith;
       four = omega arith;
     })
-    (λ ge. let e : d.u ≡ v = omega (arith, d.latest_is) in record { taps = d.taps; ys = d.ys; so_far = subst (λ w. Taps a w d.taps d.ys d.n) e d.so_far; some = d.some; one_x = d.one_x; four = d.four })
+    (λ ge. let e : d.u ≡ v = omega (arith, d.latest_is) in record { taps = d.taps; ys = d.ys; so_far = subst (λ w. Taps a w d.taps d.ys (length d.ps)) e d.so_far; some = d.some; one_x = d.one_x; four = d.four })
     (cases_lt d.u v)
 
 -- one tap more
@@ -182,49 +164,36 @@ pub record Next (a : List Frame) (i : Input) (v g t n : ℕ) : Type 0 where
   pub one_x : taps ≤ ys + 1
   pub four : ys ≤ 4
 
-next : (a : List Frame) (d : Draft a) (i : Input) (v g t : ℕ) → Ordered a (tap i v g t) → Next a i v g t d.n
+next : (a : List Frame) (d : Draft a) (i : Input) (v g t : ℕ) → Ordered a (tap i v g t) → Next a i v g t (length d.ps)
 next a d X v g t o =
     let h = here a d v o.1 in
     let z : h.taps ≡ 0 = omega (arith, h.so_far.of_unit, o.2) in
-    record { taps = 1; ys = 0; so_far = add_x a v g t h.ys d.n (subst (λ k. Taps a v k h.ys d.n) z h.so_far) (omega (arith, h.some)); some = omega arith; one_x = omega arith; four = omega arith }
+    record { taps = 1; ys = 0; so_far = add_x a v g t h.ys (length d.ps) (subst (λ k. Taps a v k h.ys (length d.ps)) z h.so_far) (omega (arith, h.some)); some = omega arith; one_x = omega arith; four = omega arith }
 next a d Y v g t o =
     let h = here a d v o.1 in
-    record { taps = h.taps + 1; ys = h.ys + 1; so_far = add_y a v g t h.taps h.ys d.n h.so_far; some = omega (arith, h.some); one_x = omega (arith, h.one_x); four = omega (arith, h.so_far.y_of_unit, o.2) }
+    record { taps = h.taps + 1; ys = h.ys + 1; so_far = add_y a v g t h.taps h.ys (length d.ps) h.so_far; some = omega (arith, h.some); one_x = omega (arith, h.one_x); four = omega (arith, h.so_far.y_of_unit, o.2) }
 
-tap_step : (a : List Frame) (i : Input) (v g t : ℕ) (d : Draft a) → d.k ≡ d.c → d.c ≤ 64 → Ordered a (tap i v g t) → TapOf (counted a) (tap i v g t) → Draft (tap i v g t ∷ a)
+tap_step : (a : List Frame) (i : Input) (v g t : ℕ) (d : Draft a) → length d.us ≡ d.c → d.c ≤ 64 → Ordered a (tap i v g t) → TapOf (counted a) (tap i v g t) → Draft (tap i v g t ∷ a)
 tap_step a i v g t d whole most o x =
     let m = next a d i v g t o in
     let p = x.plug in
-    let n = d.n in
     let low : v < d.c = subst (λ z. v < z) (counts d).0 (below_count a i v g t o) in
-    let place : n < 320 = omega (arith, m.so_far.few, m.one_x, m.four) in
-    let in' : n < length d.ps = omega (arith, d.long_ps) in
-    let base = unit_frames d.c d.us d.k in
+    let more = length_push d.ps p in
     record {
       c = d.c;
-      k = d.k;
-      n = n + 1;
       u = v;
       taps = m.taps;
       ys = m.ys;
       us = d.us;
-      ps = set d.ps n p;
-      frames_are = (λ j. sym x.is j ∷ d.frames_are j) ∙ sym (taps_more base d.ps n p in');
-      long_us = d.long_us;
-      long_ps = length-set d.ps n p ∙ d.long_ps;
+      ps = d.ps ++ p ∷ [];
+      frames_are = (λ j. sym x.is j ∷ d.frames_are j) ∙ sym (taps_push (unit_frames d.c d.us (length d.us)) d.ps p);
       few = d.few;
       full = λ h. whole;
-      room = omega arith;
+      room = omega (arith, m.so_far.few, m.one_x, m.four);
       placed = d.placed;
-      spare_us = d.spare_us;
-      sourced = λ j lt.
-          ⊎_elim
-          (λ below. let ne : j ≢ n = (λ q. omega arith) in subst (λ (z : Plug). there d.c z.tap.source ≡ true) (sym (get_or-set_other d.ps n j p blank_plug ne)) (d.sourced j below))
-          (λ at. let q : n ≡ j = omega arith in subst (λ l. there d.c (get_or (set d.ps n p) l blank_plug).tap.source ≡ true) q (subst (λ (z : Plug). there d.c z.tap.source ≡ true) (sym (get_or-set_same d.ps n p blank_plug in')) (subst (λ z. there z p.tap.source ≡ true) (counts d).0 x.sourced)))
-          (cases_lt j n);
-      spare_ps = λ j le. let ne : j ≢ n = (λ q. omega arith) in get_or-set_other d.ps n j p blank_plug ne ∙ d.spare_ps j (omega arith);
+      sourced = All-push (HasSource d.c) d.ps p d.sourced (subst (λ z. HasSource z p) (counts d).0 x.sourced);
       latest_is = refl;
-      so_far = m.so_far;
+      so_far = subst (Taps (tap i v g t ∷ a) v m.taps m.ys) (sym more) m.so_far;
       some = m.some;
       one_x = m.one_x;
       four = m.four;
@@ -238,15 +207,15 @@ drafts (count c) a h z = subst (λ b. Draft (count c ∷ b)) (sym h.1.expected) 
 drafts (integrator u n p r k s) [] h z = absurd (omega (arith, h.1.expected))
 drafts (integrator u n p r k s) (g ∷ a) h z =
     let d = drafts g a h.0 z in
-    let e : d.k ≡ u = sym (counts d).1 ∙ sym h.1.ordered in
+    let e : length d.us ≡ u = sym (counts d).1 ∙ sym h.1.ordered in
     let x = integrator_of u n p r k s h.1.fits h.1.ranged in
-    unit_step (g ∷ a) (integrator u n p r k s) d (subst (λ w. UnitOf w (integrator u n p r k s)) (sym e) x) (omega (arith, h.1.expected, (counts d).0, (counts d).1)) (most_units d h.0)
+    unit_step (g ∷ a) (integrator u n p r k s) d (subst (λ w. UnitOf w (integrator u n p r k s)) (sym e) x) (omega (arith, h.1.expected, (counts d).0, (counts d).1))
 drafts (servo u l p k s) [] h z = absurd (omega (arith, h.1.expected))
 drafts (servo u l p k s) (g ∷ a) h z =
     let d = drafts g a h.0 z in
-    let e : d.k ≡ u = sym (counts d).1 ∙ sym h.1.ordered in
+    let e : length d.us ≡ u = sym (counts d).1 ∙ sym h.1.ordered in
     let x = servo_of u l p k s h.1.fits h.1.ranged in
-    unit_step (g ∷ a) (servo u l p k s) d (subst (λ w. UnitOf w (servo u l p k s)) (sym e) x) (omega (arith, h.1.expected, (counts d).0, (counts d).1)) (most_units d h.0)
+    unit_step (g ∷ a) (servo u l p k s) d (subst (λ w. UnitOf w (servo u l p k s)) (sym e) x) (omega (arith, h.1.expected, (counts d).0, (counts d).1))
 drafts (tap i u g t) [] h z = absurd (omega (arith, h.1.expected.some))
 drafts (tap i u g t) (f ∷ a) h z =
     let d = drafts f a h.0 z in

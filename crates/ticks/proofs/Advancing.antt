@@ -1,5 +1,5 @@
 -- One unit's share in a tick: its new record keeps the bounds of the net, and the parts make up the whole.
-use Rattle.std.proofs.Common.{◌≡◌, ℕ, ◌<◌, ◌≤◌, ◌&&◌, T, List, length, ℤ, ◌+ℤ◌, ◌*ℤ◌, nat_abs, Option, sym, ap, ◌∙◌, subst, arith}
+use Rattle.std.proofs.Common.{◌≡◌, ℕ, ◌<◌, ◌≤◌, List, length, ℤ, ◌+ℤ◌, ◌*ℤ◌, nat_abs, sym, ap, ◌∙◌, subst, arith}
 use Rattle.std.proofs.lemmas.List.{get_or-set_same}
 use Rattle.unit.proofs.Sizes.{small, size_sum}
 use Rattle.unit.specs.Figures.{Figures, Moved, weight_now}
@@ -7,10 +7,8 @@ use Rattle.unit.specs.Pulses.{value}
 use Rattle.ticks.specs.Racks.{at_place, MovesAt}
 use Rattle.unit.specs.Sizes.{largest}
 use Rattle.unit.specs.declared.pulse.Pulse.{Pulse}
-use Rattle.wires.specs.declared.tap.Tap.{Tap}
-use Rattle.net.specs.Bounds.{NetWithin, WorkWithin, Wired, tap_there, taps_there}
+use Rattle.net.specs.Bounds.{NetWithin, WorkWithin}
 use Rattle.net.specs.Changes.{Stored}
-use Rattle.net.specs.Limits.{most_units}
 use Rattle.net.specs.Records.{record_at, blank, Emitted}
 use Rattle.net.specs.declared.inputs.Inputs.{Inputs}
 use Rattle.net.specs.declared.net.Net.{Net}
@@ -33,13 +31,6 @@ module _ (n : Net) (i : ℕ) (room : RoomAt n i) (z : Pulse) (w : ℤ) (light : 
       let grows = ap nat_abs e.done in
       let sum = size_sum r.work w in
       omega (arith, room.work, room.ticks)
-
-  pub taps_kept : i < most_units → Wired n.count s
-  taps_kept few =
-      let r = record_at n.table.records i in
-      let there = n.wired i blank (omega arith) few in
-      subst (λ (y : List (Option Tap)). T (tap_there n.count s.x && taps_there n.count y)) (sym e.y)
-      (subst (λ (x : Option Tap). T (tap_there n.count x && taps_there n.count r.y)) (sym e.x) there)
 
 -- z is emitted, w the weight after the step, done the work
 pub advances : {U : Type 0} (figures : U → Figures) (us : List U) (n : Net) (i : ℕ) (given : Inputs) (vs : List U) (m : Net) (z : Pulse) (w done : ℤ) (s : Record)

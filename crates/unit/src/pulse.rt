@@ -10,18 +10,20 @@ pub enum Pulse {
     Plus,
 }
 
-impl Pulse {
-    // The pulse as a number: -1, 0 or 1.
-    pub fn value(self) -> i8
-        ensures { result ≡ value self }
-    {
-        match self {
+// The pulse as a number: -1, 0 or 1.
+impl From<Pulse> for i8 {
+    ghost from_gives = { λ pulse n. n ≡ value pulse };
+
+    fn from(pulse: Pulse) -> i8 {
+        match pulse {
             Pulse::Minus => -1,
             Pulse::Zero => 0,
             Pulse::Plus => 1,
         }
     }
+}
 
+impl Pulse {
     // The pulse of the opposite sign.
     pub fn opposite(self) -> Pulse
         ensures { result ≡ opposite self }
@@ -33,7 +35,8 @@ impl Pulse {
         }
     }
 
-    // A weight times the pulse. For the crates above alone: a unit's weight is never larger.
+    // A weight times the pulse. For the crates above alone: a unit's weight is never larger. The same bound is asked of residues and
+    // of work, and stays a clause: a type for it would be wrapped and unwrapped at each sum.
     pub fn times(self, weight: i64) -> i64
         requires { unsigned_abs weight ≤ largest }
         ensures product { result ≡ weight *ℤ value self }

@@ -1,5 +1,5 @@
 ghost use Rattle.std.specs.Prelude.{◌≡◌, ◌<◌, ◌≤◌, ◌+ℤ◌, MatchOption, unsigned_abs};
-ghost use Rattle.unit.specs.Pulses.{value};
+ghost use Rattle.unit.specs.Pulses.{value, total};
 ghost use Rattle.unit.specs.Sizes.{largest_tally};
 
 use crate::pulse::Pulse;
@@ -15,7 +15,8 @@ impl Tally {
     // One for each y tap.
     pub const LARGEST: i8 = 4;
 
-    // The tally of this value, or none where it is too large.
+    // The tally of this value, or none where it is too large: an `Option`, as of `NonZero::new`, for a `TryFrom` would want an
+    // error of its own that says no more.
     pub fn new(value: i8) -> Option<Tally>
         ensures { MatchOption result (largest_tally < unsigned_abs value) (λ t. t.value ≡ value) }
     {
@@ -25,23 +26,7 @@ impl Tally {
         Some(Tally { value })
     }
 
-    // The tally of one tap that delivers this pulse.
-    pub fn of(pulse: Pulse) -> Tally
-        ensures { result.value ≡ value pulse }
-    {
-        Tally {
-            value: pulse.value(),
-        }
-    }
-
-    // The tally of four taps that deliver these pulses.
-    pub fn of_four(a: Pulse, b: Pulse, c: Pulse, d: Pulse) -> Tally
-        ensures { result.value ≡ (value a +ℤ value b) +ℤ (value c +ℤ value d) }
-    {
-        let value = sum(a, b) + sum(c, d);
-        Tally { value }
-    }
-
+    // The field, which nobody else may write.
     pub fn value(self) -> i8
         ensures { result ≡ self.value }
     {
@@ -49,9 +34,32 @@ impl Tally {
     }
 }
 
+// What one tap delivers.
+impl From<Pulse> for Tally {
+    ghost from_gives = { λ pulse tally. tally.value ≡ value pulse };
+
+    fn from(pulse: Pulse) -> Tally {
+        Tally {
+            value: i8::from(pulse),
+        }
+    }
+}
+
+// What four taps deliver.
+impl From<[Pulse; 4]> for Tally {
+    ghost from_gives = { λ pulses tally. tally.value ≡ total pulses };
+
+    fn from(pulses: [Pulse; 4]) -> Tally {
+        let [a, b, c, d] = pulses;
+        Tally {
+            value: sum(a, b) + sum(c, d),
+        }
+    }
+}
+
 fn sum(a: Pulse, b: Pulse) -> i8
     ensures sum { result ≡ value a +ℤ value b }
     ensures size { unsigned_abs result ≤ 2 }
 {
-    a.value() + b.value()
+    i8::from(a) + i8::from(b)
 }

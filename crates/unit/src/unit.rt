@@ -30,7 +30,7 @@ pub trait Unit {
     fn residue(&self) -> i64
         ensures { result ≡ told_residue (figures self.now) };
 
-    // The modulus, or 0 where it is above 4,294,967,296.
+    // The modulus, or 0 where it is above 4,294,967,296: so it is told, and not by an `Option`.
     fn modulus(&self) -> u64
         ensures { result ≡ told_modulus (figures self.now) };
 

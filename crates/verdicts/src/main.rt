@@ -6,11 +6,12 @@ use patch::patch_check;
 use reader::read::read;
 use sheet::sheet::Sheet;
 use std::alloc::{AllocError, Global};
+use std::iter;
 use unit::refusal::TextFault;
 use writer::write::write;
 
 // In the table `/` stands for a line feed, `^` for a carriage return, and `{N*S}` for N times the byte S.
-#[derive(Clone, Copy)]
+#[derive(Clone, Copy, PartialEq, Eq, Debug)]
 enum State {
     Plain,
     Count(usize),
@@ -51,16 +52,15 @@ fn expanded(heap: Global, line: &[u8]) -> Result<Vec<u8>, AllocError> {
     let mut text = Vec::new(heap);
     let mut state = State::Plain;
     for &byte in line {
-        for _ in 0..times(state, byte) {
-            text.push(plain(byte))?;
-        }
+        text.extend(iter::repeat_n(plain(byte), times(state, byte)))?;
         state = next(state, byte);
     }
     Ok(text)
 }
 
+// Packed here again, so that the table does not lean on what it tries.
 fn packed(fault: TextFault) -> u32 {
-    u32::from(fault.refusal.number()) * 65536 + u32::from(fault.line)
+    u32::from(u8::from(fault.refusal)) * 65536 + u32::from(fault.line)
 }
 
 fn verdict(heap: Global, text: &[u8]) -> Result<String, AllocError> {
@@ -71,7 +71,7 @@ fn verdict(heap: Global, text: &[u8]) -> Result<String, AllocError> {
             if packed(fault) != checked {
                 return format!(in heap; "the check says {checked}");
             }
-            format!(in heap; "refusal {} line {}", fault.refusal.number(), fault.line)
+            format!(in heap; "refusal {} line {}", u8::from(fault.refusal), fault.line)
         }
         Ok(()) => {
             if checked != 0 {
@@ -79,7 +79,7 @@ fn verdict(heap: Global, text: &[u8]) -> Result<String, AllocError> {
             }
             let mut buffer = [0u8; 8192];
             match write(&sheet, &mut buffer) {
-                Ok(n) if n <= 8192 && &buffer[0..n] == text => format!(in heap; "accepted"),
+                Ok(n) if buffer.get(..n) == Some(text) => format!(in heap; "accepted"),
                 _ => format!(in heap; "written otherwise"),
             }
         }

@@ -11,7 +11,7 @@ pub enum Source {
 }
 
 impl Source {
-    // The source that goes by this code in a job of so many units, if it is there.
+    // The source that goes by this code in a job of so many units, if it is there. No `TryFrom`: a code alone does not tell.
     pub fn of(code: u8, units: u8) -> Option<Source>
         ensures { MatchOption result ((s : Source) → there units s ≡ true → code_of s ≢ code) (λ s. (there units s ≡ true) × (code_of s ≡ code)) }
     {
@@ -23,7 +23,8 @@ impl Source {
         }
     }
 
-    // The code that the source goes by; 255 for an outside line that is too far out to have one.
+    // The code that the source goes by; 255 for an outside line that is too far out to have one, so this is no `From`. It cannot
+    // fail, since every source that is there has a code.
     pub fn code(self) -> u8
         ensures { result ≡ min (code_of self) 255 }
     {

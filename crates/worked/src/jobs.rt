@@ -1,5 +1,5 @@
 use layers::divider::Divider;
-use layers::house::{HouseUnit, house_integrator};
+use layers::house::house_integrator;
 use layers::turn::Sense;
 use machine::job::OpenJob;
 use machine::job::open::open;
@@ -26,9 +26,7 @@ fn with_taps(
     source: u8,
 ) -> Result<(OpenJob, Net), Refusal> {
     let (mut job, mut net) = open();
-    if let Err(back) = job.place(rack, &mut net, unit) {
-        return Err(back.refusal);
-    }
+    job.place(rack, &mut net, unit)?;
     job.plug(rack, &mut net, 0, Input::X, PLUS, CLOCK)?;
     job.plug(rack, &mut net, 0, Input::Y, sign, source)?;
     Ok((job, net))
@@ -40,30 +38,26 @@ fn growth_job(rt: HostRuntime) -> Result<(), Fail> {
     let spare = Integrator::new(3, 7, 5)?;
     let mut rack = [spare; 2];
     let (job, mut net) = with_taps(&mut rack, Integrator::new(2, 1, 0)?, PLUS, 0)?;
-    match job.set(&rack, &mut net) {
-        Ok(job) => {
-            let ran = job.run(&mut rack, &mut net, 12);
-            assert_eq!(rt; ran.made, 9);
-            assert_eq!(rt; ran.refusal, Some(Refusal::LeavesRange { unit: 0 }));
-            let mut buffer = [b'.'; 16];
-            assert_eq!(rt; job.row(&rack, &net, 0, &mut buffer), Ok(13));
-            assert!(rt; buffer == *b"9 0 4 2 4 18\n...");
-            assert_eq!(rt;
-                job.row(&rack, &net, 1, &mut buffer),
-                Err(Refusal::NotThere)
-            );
-            let mut short = [b'.'; 12];
-            assert_eq!(rt;
-                job.row(&rack, &net, 0, &mut short),
-                Err(Refusal::BufferTooShort)
-            );
-            assert!(rt; short == [b'.'; 12]);
-            assert_eq!(rt; rack[1].position(), 7);
-            assert_eq!(rt; rack[1].residue(), 5);
-            Ok(())
-        }
-        Err(_) => Err(Fail::new("not set")),
-    }
+    let job = job.set(&rack, &mut net)?;
+    let ran = job.run(&mut rack, &mut net, 12);
+    assert_eq!(rt; ran.made, 9);
+    assert_eq!(rt; ran.refusal, Some(Refusal::LeavesRange { unit: 0 }));
+    let mut buffer = [b'.'; 16];
+    assert_eq!(rt; job.row(&rack, &net, 0, &mut buffer), Ok(13));
+    assert!(rt; buffer == *b"9 0 4 2 4 18\n...");
+    assert_eq!(rt;
+        job.row(&rack, &net, 1, &mut buffer),
+        Err(Refusal::NotThere)
+    );
+    let mut short = [b'.'; 12];
+    assert_eq!(rt;
+        job.row(&rack, &net, 0, &mut short),
+        Err(Refusal::BufferTooShort)
+    );
+    assert!(rt; short == [b'.'; 12]);
+    assert_eq!(rt; rack[1].position(), 7);
+    assert_eq!(rt; rack[1].residue(), 5);
+    Ok(())
 }
 
 // A refused tick keeps what waits on an outside line; a second feed is refused while it waits.
@@ -72,31 +66,27 @@ fn feeds(rt: HostRuntime) -> Result<(), Fail> {
     let spare = Integrator::new(1, 0, 0)?;
     let mut rack = [spare];
     let (job, mut net) = with_taps(&mut rack, Integrator::new(1, 2, 0)?, PLUS, LINE_0)?;
-    match job.set(&rack, &mut net) {
-        Ok(job) => {
-            assert_eq!(rt; job.feed(&rack, &mut net, 4, 1), Err(Refusal::NoSuchFeed));
-            assert_eq!(rt; job.feed(&rack, &mut net, 0, 0), Err(Refusal::NoSuchFeed));
-            assert_eq!(rt; job.feed(&rack, &mut net, 0, 1), Ok(()));
-            assert_eq!(rt;
-                job.feed(&rack, &mut net, 0, -1),
-                Err(Refusal::PulseWaiting)
-            );
-            // position 2 is the top: +1 leaves the range, and goes on waiting
-            assert_eq!(rt;
-                job.tick(&mut rack, &mut net),
-                Err(Refusal::LeavesRange { unit: 0 })
-            );
-            assert_eq!(rt;
-                job.feed(&rack, &mut net, 0, -1),
-                Err(Refusal::PulseWaiting)
-            );
-            let told = job.read(&rack, &net, 0)?;
-            assert_eq!(rt; told.ticks, 0);
-            assert_eq!(rt; told.position, 2);
-            Ok(())
-        }
-        Err(_) => Err(Fail::new("not set")),
-    }
+    let job = job.set(&rack, &mut net)?;
+    assert_eq!(rt; job.feed(&rack, &mut net, 4, 1), Err(Refusal::NoSuchFeed));
+    assert_eq!(rt; job.feed(&rack, &mut net, 0, 0), Err(Refusal::NoSuchFeed));
+    assert_eq!(rt; job.feed(&rack, &mut net, 0, 1), Ok(()));
+    assert_eq!(rt;
+        job.feed(&rack, &mut net, 0, -1),
+        Err(Refusal::PulseWaiting)
+    );
+    // position 2 is the top: +1 leaves the range, and goes on waiting
+    assert_eq!(rt;
+        job.tick(&mut rack, &mut net),
+        Err(Refusal::LeavesRange { unit: 0 })
+    );
+    assert_eq!(rt;
+        job.feed(&rack, &mut net, 0, -1),
+        Err(Refusal::PulseWaiting)
+    );
+    let told = job.read(&rack, &net, 0)?;
+    assert_eq!(rt; told.ticks, 0);
+    assert_eq!(rt; told.position, 2);
+    Ok(())
 }
 
 // Refusals come in their order: rack or net first, then sign, source, unit and tap.
@@ -144,37 +134,26 @@ fn plugs(rt: HostRuntime) -> Result<(), Fail> {
 fn no_units(rt: HostRuntime) -> Result<(), Fail> {
     let (job, mut net) = open();
     let rack = [Integrator::new(1, 0, 0)?];
-    match job.set(&rack, &mut net) {
-        Ok(_) => Err(Fail::new("set without units")),
-        Err(back) => {
-            assert_eq!(rt; back.refusal, Refusal::NoUnits);
-            Ok(())
-        }
-    }
-}
-
-fn behind(divisor: u8, unit: HouseUnit) -> Result<Divider<HouseUnit>, Refusal> {
-    match Divider::new(divisor, unit) {
-        Ok(divider) => Ok(divider),
-        Err(back) => Err(back.refusal),
-    }
+    let Err(back) = job.set(&rack, &mut net) else {
+        return Err(Fail::new("set without units"));
+    };
+    assert_eq!(rt; back.refusal, Refusal::NoUnits);
+    Ok(())
 }
 
 // The largest house unit behind a further divider by 2 tells no modulus, so it is not set.
 #[test]
 fn modulus_untold(rt: HostRuntime) -> Result<(), Fail> {
     let (mut job, mut net) = open();
-    let small = behind(1, house_integrator(1, 0, 0, 1, Sense::Upright)?)?;
-    let large = behind(2, house_integrator(24, 0, 0, 255, Sense::Upright)?)?;
+    let small = Divider::new(1, house_integrator(1, 0, 0, 1, Sense::Upright)?)?;
+    let large = Divider::new(2, house_integrator(24, 0, 0, 255, Sense::Upright)?)?;
     let mut rack = [small; 2];
     assert!(rt; job.place(&mut rack, &mut net, small).is_ok());
     assert!(rt; job.place(&mut rack, &mut net, large).is_ok());
     assert!(rt; job.place(&mut rack, &mut net, small).is_err());
-    match job.set(&rack, &mut net) {
-        Ok(_) => Err(Fail::new("set without a modulus")),
-        Err(back) => {
-            assert_eq!(rt; back.refusal, Refusal::ModulusUntold { unit: 1 });
-            Ok(())
-        }
-    }
+    let Err(back) = job.set(&rack, &mut net) else {
+        return Err(Fail::new("set without a modulus"));
+    };
+    assert_eq!(rt; back.refusal, Refusal::ModulusUntold { unit: 1 });
+    Ok(())
 }

@@ -5,6 +5,7 @@ use makes::integrator::Integrator;
 use makes::servo::Servo;
 use std::test::Fail;
 use unit::pulse::Pulse;
+use unit::refusal::{Refusal, TextFault};
 use unit::tally::Tally;
 use unit::unit::Unit;
 
@@ -25,11 +26,11 @@ fn growth(rt: HostRuntime) -> Result<(), Fail> {
     let mut unit = Integrator::new(2, 1, 0)?;
     let mut last = Pulse::Zero;
     for (pulse, residue) in rows {
-        last = unit.step(Pulse::Plus, Tally::of(last)).ok_or("refused")?;
-        assert_eq!(rt; last.value(), pulse);
+        last = unit.step(Pulse::Plus, Tally::from(last)).ok_or("refused")?;
+        assert_eq!(rt; i8::from(last), pulse);
         assert_eq!(rt; unit.residue(), residue);
     }
-    assert_eq!(rt; unit.step(Pulse::Plus, Tally::of(last)), None);
+    assert_eq!(rt; unit.step(Pulse::Plus, Tally::from(last)), None);
     assert_eq!(rt; unit.position(), 4);
     Ok(())
 }
@@ -40,7 +41,7 @@ fn inverted(rt: HostRuntime) -> Result<(), Fail> {
     let mut unit = house_integrator(2, -1, 0, 1, Sense::Inverted)?;
     assert_eq!(rt; unit.weight(), 1);
     assert_eq!(rt;
-        unit.step(Pulse::Plus, Tally::of(Pulse::Zero)),
+        unit.step(Pulse::Plus, Tally::from(Pulse::Zero)),
         Some(Pulse::Plus)
     );
     assert_eq!(rt; unit.residue(), -3);
@@ -52,14 +53,14 @@ fn inverted(rt: HostRuntime) -> Result<(), Fail> {
 fn cloned(rt: HostRuntime) -> Result<(), Fail> {
     let mut unit = house_servo(5, -5, 3, Sense::Inverted)?;
     assert_eq!(rt;
-        unit.step(Pulse::Plus, Tally::of(Pulse::Zero)),
+        unit.step(Pulse::Plus, Tally::from(Pulse::Zero)),
         Some(Pulse::Plus)
     );
     let mut clone = unit.clone()?;
     assert_eq!(rt; clone, unit);
     assert_eq!(rt; clone.residue(), -2);
     assert_eq!(rt;
-        clone.step(Pulse::Plus, Tally::of(Pulse::Zero)),
+        clone.step(Pulse::Plus, Tally::from(Pulse::Zero)),
         Some(Pulse::Zero)
     );
     assert_eq!(rt; clone.residue(), -1);
@@ -72,20 +73,20 @@ fn cloned(rt: HostRuntime) -> Result<(), Fail> {
 fn divided(rt: HostRuntime) -> Result<(), Fail> {
     let mut unit = house_servo(5, -5, 3, Sense::Upright)?;
     assert_eq!(rt;
-        unit.step(Pulse::Plus, Tally::of(Pulse::Zero)),
+        unit.step(Pulse::Plus, Tally::from(Pulse::Zero)),
         Some(Pulse::Minus)
     );
     assert_eq!(rt; unit.residue(), 2);
     assert_eq!(rt;
-        unit.step(Pulse::Plus, Tally::of(Pulse::Zero)),
+        unit.step(Pulse::Plus, Tally::from(Pulse::Zero)),
         Some(Pulse::Zero)
     );
     assert_eq!(rt;
-        unit.step(Pulse::Plus, Tally::of(Pulse::Zero)),
+        unit.step(Pulse::Plus, Tally::from(Pulse::Zero)),
         Some(Pulse::Zero)
     );
     assert_eq!(rt; unit.residue(), 0);
-    assert_eq!(rt; unit.accepts(Tally::of(Pulse::Minus)), false);
+    assert_eq!(rt; unit.accepts(Tally::from(Pulse::Minus)), false);
     Ok(())
 }
 
@@ -94,14 +95,10 @@ fn divided(rt: HostRuntime) -> Result<(), Fail> {
 fn largest(rt: HostRuntime) -> Result<(), Fail> {
     let unit = house_integrator(24, 0, 0, 255, Sense::Upright)?;
     assert_eq!(rt; unit.modulus(), 4_278_190_080);
-    match Divider::new(2, unit) {
-        Ok(outer) => {
-            assert_eq!(rt; outer.modulus(), 0);
-            assert_eq!(rt; outer.residue(), 0);
-            Ok(())
-        }
-        Err(_) => Err(Fail::new("2 is a divisor")),
-    }
+    let outer = Divider::new(2, unit)?;
+    assert_eq!(rt; outer.modulus(), 0);
+    assert_eq!(rt; outer.residue(), 0);
+    Ok(())
 }
 
 // Refused figures.
@@ -112,11 +109,24 @@ fn refused(rt: HostRuntime) -> Result<(), Fail> {
     assert!(rt; Integrator::new(2, 0, 4).is_err());
     assert!(rt; Servo::new(16_777_217, 0).is_err());
     assert!(rt; house_servo(1, 0, 0, Sense::Upright).is_err());
-    match Turn::of_figure(2, Integrator::new(2, 3, 1)?) {
-        Ok(_) => Err(Fail::new("2 is no sense")),
-        Err(back) => {
-            assert_eq!(rt; back.unit.position(), 3);
-            Ok(())
-        }
-    }
+    let Err(back) = Turn::of_figure(2, Integrator::new(2, 3, 1)?) else {
+        return Err(Fail::new("2 is no sense"));
+    };
+    assert_eq!(rt; back.unit.position(), 3);
+    Ok(())
+}
+
+// A refusal and a fault of a text print as words.
+#[test]
+fn texts(rt: HostRuntime) -> Result<(), Fail> {
+    let heap = rt.alloc();
+    let leaves = format!(in heap; "{}", Refusal::LeavesRange { unit: 3 })?;
+    assert_eq!(rt; leaves.as_str(), "unit 3 would leave its range");
+    let fault = TextFault {
+        refusal: Refusal::FrameOrder,
+        line: 7,
+    };
+    let missing = format!(in heap; "{fault}")?;
+    assert_eq!(rt; missing.as_str(), "line 7: no such frame may stand here");
+    Ok(())
 }

@@ -1,8 +1,8 @@
--- One line more of a text that is written so far.
-use Rattle.std.proofs.Common.{◌≡◌, ℕ, ◌+◌, List, [], ◌∷◌, ◌++◌, length, get_or, pos, sum, sym, refl, ap, ◌∙◌, subst, add-one, arith, length-append}
-use Rattle.buffer.specs.Puts.{Put}
-use Rattle.buffer.proofs.Puts.{then}
-use Rattle.frames.specs.Frames.{Frame, widths, line, text}
+-- The lines of units and of taps: how many bytes they have, one more of them, and the text that they make.
+use Rattle.std.proofs.Common.{◌≡◌, ℕ, zero, suc, ◌+◌, ◌*◌, ◌<◌, ◌≤◌, List, [], ◌∷◌, ◌++◌, length, get_or, take, pos, sum, sym, refl, ap, ◌∙◌, append_assoc, append-nil, add-one, arith, length-append}
+use Rattle.std.proofs.lemmas.List.{get_or_default, take_all}
+use Rattle.std.proofs.lemmas.List.Sums.{sum_by_more, sum_by-take-le}
+use Rattle.frames.specs.Frames.{Frame, count, widths, line, text}
 use Rattle.frames.proofs.Lines.{length-line}
 use Rattle.layers.specs.declared.turn.Sense.TheVariants.{Upright}
 use Rattle.sheet.specs.Patches.{make_frame, unit_frame, unit_frames, tap_frame, tap_frames, blank_unit, blank_plug}
@@ -10,32 +10,56 @@ use Rattle.sheet.specs.declared.parts.MakeFigures.{MakeFigures}
 use Rattle.sheet.specs.declared.parts.MakeFigures.TheVariants.{Integrator, Servo}
 use Rattle.sheet.specs.declared.parts.Plug.{Plug}
 use Rattle.sheet.specs.declared.parts.UnitFigures.{UnitFigures}
-use Rattle.writer.specs.Sizes.{unit_size}
+use Rattle.writer.specs.Lines.{fed, unit_lines, tap_lines}
+use Rattle.writer.specs.Sizes.{unit_size, units_size}
 
--- what a read of an array of units names as its default
+-- what a read of a list of units names as its default
 abbrev pub no_unit : UnitFigures
 no_unit = record { make = Integrator 0 0; position = pos 0; divisor = 0; sense = Upright }
 
-pub length-fed : (f : Frame) → length (line f ++ 10 ∷ []) ≡ sum (widths f) + 2
+pub length-fed : (f : Frame) → length (fed f) ≡ sum (widths f) + 2
 length-fed f = omega (arith, length-append (line f) (10 ∷ []), length-line f)
 
--- the place after a line
-pub line_end : (f : Frame) (at end : ℕ) (a b : List ℕ) → Put at (line f ++ 10 ∷ []) a b end → end ≡ at + (sum (widths f) + 2)
-line_end f at end a b p = omega (arith, p.end_is, length-fed f)
-
-make_widths : (u v p k s : ℕ) (m : MakeFigures) → widths (make_frame u m p k s) ≡ widths (make_frame v m p k s)
-make_widths u v p k s (Integrator n r) = refl
-make_widths u v p k s (Servo l) = refl
+length-make : (u p k s : ℕ) (m : MakeFigures) → length (fed (make_frame u m p k s)) ≡ sum (widths (make_frame 0 m p k s)) + 2
+length-make u p k s (Integrator n r) = length-fed (make_frame u (Integrator n r) p k s)
+length-make u p k s (Servo l) = length-fed (make_frame u (Servo l) p k s)
 
 -- a unit's line is as long at every number
-pub unit_widths : (u : ℕ) (x : UnitFigures) → widths (unit_frame u x) ≡ widths (unit_frame 0 x)
-unit_widths u x = make_widths u 0 _ _ _ x.make
+length-fed_unit : (u : ℕ) (x : UnitFigures) → length (fed (unit_frame u x)) ≡ unit_size x
+length-fed_unit u x = length-make u _ _ _ x.make
 
-pub unit_end : (u : ℕ) (x : UnitFigures) (at end : ℕ) (a b : List ℕ) → Put at (line (unit_frame u x) ++ 10 ∷ []) a b end → end ≡ at + unit_size x
-unit_end u x at end a b p = line_end (unit_frame u x) at end a b p ∙ ap (λ ws. at + (sum ws + 2)) (unit_widths u x)
+length-unit_lines : (us : List UnitFigures) (k : ℕ) → k ≤ length us → length (unit_lines us k) ≡ units_size (take k us)
+length-unit_lines us zero h = refl
+length-unit_lines us (suc k) h =
+    let x = get_or us k blank_unit in
+    let more = rw add-one at (sum_by_more unit_size us k blank_unit (omega arith)) in
+    omega (arith, more, length-append (unit_lines us k) (fed (unit_frame k x)), length-fed_unit k x, length-unit_lines us k (omega arith))
 
-pub tap_text_more : (above : List Frame) (ps : List Plug) (i : ℕ) (blank b c : List ℕ) (mid end : ℕ) → Put 0 (text (tap_frames above ps i)) blank b mid → Put mid (line (tap_frame (get_or ps i blank_plug)) ++ 10 ∷ []) b c end → Put 0 (text (tap_frames above ps (i + 1))) blank c end
-tap_text_more above ps i blank b c mid end p q = subst (λ n. Put 0 (text (tap_frames above ps n)) blank c end) (sym (add-one i)) (then p q)
+-- the lines of all units
+pub length-all_units : (us : List UnitFigures) → length (unit_lines us (length us)) ≡ units_size us
+length-all_units us = length-unit_lines us (length us) (omega arith) ∙ ap units_size (take_all (length us) us (omega arith))
 
-pub unit_text_more : (k : ℕ) (us : List UnitFigures) (i : ℕ) (blank b c : List ℕ) (mid end : ℕ) → Put 0 (text (unit_frames k us i)) blank b mid → Put mid (line (unit_frame i (get_or us i blank_unit)) ++ 10 ∷ []) b c end → Put 0 (text (unit_frames k us (i + 1))) blank c end
-unit_text_more k us i blank b c mid end p q = subst (λ n. Put 0 (text (unit_frames k us n)) blank c end) (sym (add-one i)) (then p q)
+pub length-tap_lines : (ps : List Plug) (k : ℕ) → length (tap_lines ps k) ≡ 8 * k
+length-tap_lines ps zero = refl
+length-tap_lines ps (suc k) =
+    let f = tap_frame (get_or ps k blank_plug) in
+    omega (arith, length-append (tap_lines ps k) (fed f), length-fed f, length-tap_lines ps k)
+
+pub unit_lines_more : (us : List UnitFigures) (k : ℕ) → k < length us → unit_lines us (k + 1) ≡ unit_lines us k ++ fed (unit_frame k (get_or us k no_unit))
+unit_lines_more us k h = rw (add-one, get_or_default us k no_unit blank_unit h)
+
+-- the next unit is one of those that the whole size counts
+pub unit_within : (us : List UnitFigures) (k : ℕ) → k < length us → length (unit_lines us k) + unit_size (get_or us k no_unit) ≤ units_size us
+unit_within us k h = omega (arith, length-unit_lines us k (omega arith), sum_by_more unit_size us k no_unit h, sum_by-take-le unit_size us (k + 1))
+
+pub tap_lines_more : (ps : List Plug) (k : ℕ) → tap_lines ps (k + 1) ≡ tap_lines ps k ++ fed (tap_frame (get_or ps k blank_plug))
+tap_lines_more ps k = rw add-one
+
+-- the count and the lines of the units are the text of their frames, and so on with the taps
+pub text-unit_frames : (c : ℕ) (us : List UnitFigures) (k : ℕ) → text (unit_frames c us k) ≡ fed (count c) ++ unit_lines us k
+text-unit_frames c us zero = sym (append-nil (fed (count c)))
+text-unit_frames c us (suc k) = rw (text-unit_frames c us k) (append_assoc (fed (count c)) (unit_lines us k) _)
+
+pub text-tap_frames : (above : List Frame) (ps : List Plug) (k : ℕ) → text (tap_frames above ps k) ≡ text above ++ tap_lines ps k
+text-tap_frames above ps zero = sym (append-nil (text above))
+text-tap_frames above ps (suc k) = rw (text-tap_frames above ps k) (append_assoc (text above) (tap_lines ps k) _)

@@ -1,110 +1,92 @@
-// The lines of a text. Each function writes from the place `at` on, and answers the place after what it wrote; `put_units` and
-// `put_taps` go on with a text that is written so far. They are public for `write`, and ask for room.
-ghost use Rattle.std.specs.Prelude.{◌≡◌, ℕ, ◌+◌, ◌*◌, ◌<◌, ◌≤◌, List, [], ◌∷◌, ◌++◌, length, sum, slice_index_or};
-ghost use Rattle.buffer.specs.Puts.{Put};
-ghost use Rattle.frames.specs.Frames.{Frame, line, text};
+// The lines of a text, each after what is written so far. They are public for `write`, and ask for room.
+ghost use Rattle.std.specs.Prelude.{◌≡◌, ℕ, ◌+◌, ◌*◌, ◌^◌, ◌<◌, ◌≤◌, [], ◌∷◌, ◌++◌, length, sum, slice_index_or};
+ghost use Rattle.buffer.specs.Cursor.{rest, Appends};
 ghost use Rattle.hexa.specs.Hex.{hexes};
-ghost use Rattle.sheet.specs.Patches.{unit_frame, unit_frames, tap_frame, tap_frames, blank_plug};
+ghost use Rattle.sheet.specs.Patches.{unit_frame, tap_frame, blank_plug};
 ghost use Rattle.wires.specs.Sources.{code_of};
-ghost use Rattle.writer.specs.Sizes.{unit_size, units_size};
+ghost use Rattle.writer.specs.Lines.{fed, unit_lines, tap_lines};
+ghost use Rattle.writer.specs.Sizes.{unit_size, units_size, tap_size};
 
-use buffer::put_byte;
+use buffer::Cursor;
+use frames::widths::{INTEGRATOR, SERVO, TAP};
 use hexa::put_figures;
 use sheet::parts::{MakeFigures, Plug, UnitFigures};
 use wires::tap::Input;
 
-// A frame: its letter, its figures and a line feed.
-pub fn put_line<const N: usize>(
-    buf: &mut [u8],
-    at: usize,
-    letter: u8,
-    widths: [usize; N],
-    values: [u32; N],
-) -> usize
-    requires { at + (sum widths + 2) ≤ length buf.old }
-    ensures { Put at ((letter ∷ hexes widths.entry values.entry) ++ (10 ∷ [])) buf.old buf.new result }
+// How many bytes a frame takes: its letter, its digits and a line feed.
+pub fn line_len<const N: usize>(widths: [usize; N]) -> usize
+    requires { sum widths + 2 < 2 ^ 64 }
+    ensures { result ≡ sum widths.entry + 2 }
 {
-    let end = put_byte(buf, at, letter);
-    let end = put_figures(buf, end, widths, values);
-    put_byte(buf, end, b'\n')
+    widths.iter().sum::<usize>() + 2
+}
+
+// A frame: its letter, its figures and a line feed.
+pub fn put_line<const N: usize>(out: &mut Cursor, letter: u8, widths: [usize; N], values: [u32; N])
+    requires { sum widths + 2 ≤ length (rest out.old) }
+    ensures { Appends ((letter ∷ hexes widths.entry values.entry) ++ (10 ∷ [])) out.old out.new }
+{
+    out.push(letter);
+    put_figures(out, widths, values);
+    out.push(b'\n');
 }
 
 // The frame of one unit.
-fn put_unit(buf: &mut [u8], at: usize, unit: u8, figures: UnitFigures) -> usize
-    requires { at + unit_size figures ≤ length buf.old }
-    ensures { Put at (line (unit_frame unit figures) ++ (10 ∷ [])) buf.old buf.new result }
+fn put_unit(out: &mut Cursor, unit: u8, figures: UnitFigures)
+    requires { unit_size figures ≤ length (rest out.old) }
+    ensures { Appends (fed (unit_frame unit figures)) out.old out.new }
 {
+    let unit = u32::from(unit);
     let position = figures.position.cast_unsigned();
     let divisor = u32::from(figures.divisor);
-    let sense = u32::from(figures.sense.figure());
+    let sense = u32::from(u8::from(figures.sense));
     match figures.make {
-        MakeFigures::Integrator { length, residue } => put_line(
-            buf,
-            at,
-            b'I',
-            [2, 2, 8, 8, 2, 2],
-            [
-                u32::from(unit),
-                u32::from(length),
-                position,
-                residue,
-                divisor,
-                sense,
-            ],
-        ),
+        MakeFigures::Integrator { length, residue } => {
+            let values = [unit, u32::from(length), position, residue, divisor, sense];
+            put_line(out, b'I', INTEGRATOR, values);
+        }
         MakeFigures::Servo { limit } => {
-            put_line(
-                buf,
-                at,
-                b'S',
-                [2, 8, 8, 2, 2],
-                [u32::from(unit), limit, position, divisor, sense],
-            )
+            put_line(out, b'S', SERVO, [unit, limit, position, divisor, sense]);
         }
     }
 }
 
-// The frames of the units, below the count.
-pub fn put_units(buf: &mut [u8], at: usize, units: &[UnitFigures]) -> usize
+// The frames of the units, by their numbers.
+pub fn put_units(out: &mut Cursor, units: &[UnitFigures])
     requires few { length units.now ≤ 64 }
-    requires room { at + units_size units.now ≤ length buf.old }
-    ensures end { result ≡ at + units_size units.now }
-    ensures put { (c : ℕ) (blank : List ℕ) → Put 0 (text (unit_frames c units.now 0)) blank buf.old at → Put 0 (text (unit_frames c units.now (length units.now))) blank buf.new result }
+    requires room { units_size units.now ≤ length (rest out.old) }
+    ensures { Appends (unit_lines units.now (length units.now)) out.old out.new }
 {
-    let mut end = at;
-    for u in 0..units.len() {
-        end = put_unit(buf, end, u as u8, units[u]);
+    for (u, &figures) in units.iter().enumerate() {
+        put_unit(out, u as u8, figures);
     }
-    end
 }
 
 // The frame of one tap.
-fn put_tap(buf: &mut [u8], at: usize, plug: Plug) -> usize
-    requires room { at + 8 ≤ length buf.old }
+fn put_tap(out: &mut Cursor, plug: Plug)
+    requires room { tap_size ≤ length (rest out.old) }
     requires small { code_of plug.tap.source ≤ 255 }
-    ensures { Put at (line (tap_frame plug) ++ (10 ∷ [])) buf.old buf.new result }
+    ensures { Appends (fed (tap_frame plug)) out.old out.new }
 {
+    let letter = match plug.input {
+        Input::X => b'X',
+        Input::Y => b'Y',
+    };
     let unit = u32::from(plug.unit);
-    let sign = u32::from(plug.tap.sign.figure());
+    let sign = u32::from(u8::from(plug.tap.sign));
     let source = u32::from(plug.tap.source.code());
-    match plug.input {
-        Input::X => put_line(buf, at, b'X', [2, 2, 2], [unit, sign, source]),
-        Input::Y => put_line(buf, at, b'Y', [2, 2, 2], [unit, sign, source]),
-    }
+    put_line(out, letter, TAP, [unit, sign, source]);
 }
 
-// The frames of the taps, below those of the units.
-pub fn put_taps(buf: &mut [u8], at: usize, taps: &[Plug]) -> usize
-    requires room { at + 8 * length taps.now ≤ length buf.old }
+// The frames of the taps.
+pub fn put_taps(out: &mut Cursor, taps: &[Plug])
+    requires room { tap_size * length taps.now ≤ length (rest out.old) }
     requires small { (i : ℕ) → i < length taps.now → code_of (slice_index_or taps.now i blank_plug).tap.source ≤ 255 }
-    ensures end { result ≡ at + 8 * length taps.now }
-    ensures put { (above : List Frame) (blank : List ℕ) → Put 0 (text above) blank buf.old at → Put 0 (text (tap_frames above taps.now (length taps.now))) blank buf.new result }
+    ensures { Appends (tap_lines taps.now (length taps.now)) out.old out.new }
 {
-    let mut end = at;
-    for i in 0..taps.len() {
-        end = put_tap(buf, end, taps[i]);
+    for &plug in taps {
+        put_tap(out, plug);
     }
-    end
 }
 
 // How many bytes the frames of the units take.
@@ -112,19 +94,15 @@ pub fn units_len(units: &[UnitFigures]) -> usize
     requires { length units.now ≤ 64 }
     ensures { result ≡ units_size units.now }
 {
-    let mut len: usize = 0;
-    for u in 0..units.len() {
-        len += unit_len(units[u]);
-    }
-    len
+    units.iter().map(|&figures| unit_len(figures)).sum()
 }
 
 fn unit_len(figures: UnitFigures) -> usize
     ensures value { result ≡ unit_size figures }
-    ensures bound { result ≤ 26 }
+    ensures bound { result ≤ sum INTEGRATOR + 2 }
 {
     match figures.make {
-        MakeFigures::Integrator { .. } => 26,
-        MakeFigures::Servo { .. } => 24,
+        MakeFigures::Integrator { .. } => line_len(INTEGRATOR),
+        MakeFigures::Servo { .. } => line_len(SERVO),
     }
 }

@@ -1,7 +1,8 @@
-use Rattle.std.proofs.Common.{◌≡◌, ◌+◌, take, sum}
-use Rattle.buffer.specs.Puts.{Put}
+use Rattle.std.proofs.Common.{length, take}
+use Rattle.buffer.specs.Cursor.{Appends}
 use Rattle.hexa.specs.Hex.{hexes}
 use Rattle.hexa.proofs.put_figures.Given as goal
 
-abbrev pub invariant-loop-i : goal.invariant-loop-i
-invariant-loop-i g l = (l.end ≡ l.at + sum (take l.i l.widths)) × Put l.at (hexes (take l.i l.widths) (take l.i l.values)) l.initial.buf l.buf l.end
+-- the figures so far are written
+abbrev pub invariant-loop-width : goal.invariant-loop-width
+invariant-loop-width g l = Appends (hexes (take (length l.yielded) l.fn.widths) (take (length l.yielded) l.fn.values)) l.initial.out l.out

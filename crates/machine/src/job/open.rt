@@ -1,12 +1,12 @@
 ghost use Rattle.std.specs.Prelude.{◌≡◌, ◌≤◌, length};
 ghost use Rattle.calls.specs.Calls.{PlaceAnswers, FirstUntold};
-ghost use Rattle.machine.specs.Setting.{SetAnswers, SetLaw};
+ghost use Rattle.machine.specs.Checks.{NextPlace};
+ghost use Rattle.machine.specs.Setting.{MayBeSet, SetAnswers, SetLaw};
 ghost use Rattle.net.specs.Changes.{Empty};
 
 use crate::job::{NotSet, OpenJob, SetJob};
-use crate::matching::matches;
+use crate::matching::belongs;
 use net::net::Net;
-use ticks::rack::modulus_at;
 use unit::refusal::{Refusal, Returned};
 use unit::unit::Unit;
 
@@ -28,23 +28,28 @@ impl OpenJob {
     ) -> Result<(), Returned<U>>
         ensures { PlaceAnswers self.old.units rack.old net.old unit result self.new.units rack.new net.new }
     {
-        if !matches(self.units, rack, net) {
-            return Err(Returned {
-                unit,
-                refusal: Refusal::OtherRackOrNet,
-            });
+        // a match, since the unit goes into the rack or back
+        match self.next_place(rack, net) {
+            Ok(place) => {
+                rack[place] = unit;
+                net.add_unit();
+                self.units += 1;
+                Ok(())
+            }
+            Err(refusal) => Err(Returned { unit, refusal }),
         }
+    }
+
+    // The place in the rack of the next unit.
+    fn next_place<U>(&self, rack: &[U], net: &Net) -> Result<usize, Refusal>
+        ensures { NextPlace self.now.units rack.now net.now result }
+    {
+        belongs(self.units, rack, net)?;
         let place = self.units as usize;
         if place >= 64 || place >= rack.len() {
-            return Err(Returned {
-                unit,
-                refusal: Refusal::RackFull,
-            });
+            return Err(Refusal::RackFull);
         }
-        rack[place] = unit;
-        net.add_unit();
-        self.units += 1;
-        Ok(())
+        Ok(place)
     }
 
     // Sets the job: nothing on any line, nothing counted, the units as they are. A refused job comes back. Whatever calls
@@ -53,33 +58,25 @@ impl OpenJob {
         ensures answers { SetAnswers U.figures self.units rack.now net.old result net.new }
         ensures law { SetLaw U.figures self.units rack.now result net.new }
     {
-        self.set_up(rack, net)
-    }
-
-    fn set_up<U: Unit>(self, rack: &[U], net: &mut Net) -> Result<SetJob, NotSet>
-        ensures { SetAnswers U.figures self.units rack.now net.old result net.new }
-    {
-        if !matches(self.units, rack, net) {
-            return Err(NotSet {
-                job: self,
-                refusal: Refusal::OtherRackOrNet,
-            });
-        }
-        if self.units == 0 {
-            return Err(NotSet {
-                job: self,
-                refusal: Refusal::NoUnits,
-            });
-        }
-        if let Some(unit) = first_untold(rack, self.units) {
-            return Err(NotSet {
-                job: self,
-                refusal: Refusal::ModulusUntold { unit },
-            });
+        // no `?`, since the job goes back with the refusal
+        if let Err(refusal) = self.may_be_set(rack, net) {
+            return Err(NotSet { job: self, refusal });
         }
         net.reset();
-        let OpenJob { units } = self;
-        Ok(SetJob { units })
+        Ok(SetJob { units: self.units })
+    }
+
+    fn may_be_set<U: Unit>(&self, rack: &[U], net: &Net) -> Result<(), Refusal>
+        ensures { MayBeSet U.figures self.now.units rack.now net.now result }
+    {
+        belongs(self.units, rack, net)?;
+        if self.units == 0 {
+            return Err(Refusal::NoUnits);
+        }
+        match first_untold(rack, self.units) {
+            Some(unit) => Err(Refusal::ModulusUntold { unit }),
+            None => Ok(()),
+        }
     }
 }
 
@@ -88,10 +85,8 @@ fn first_untold<U: Unit>(rack: &[U], units: u8) -> Option<u8>
     requires { units ≤ length rack.now }
     ensures { FirstUntold U.figures units rack.now result }
 {
-    for i in 0..units {
-        if modulus_at(rack, i as usize) == 0 {
-            return Some(i);
-        }
-    }
-    None
+    rack[..units as usize]
+        .iter()
+        .position(|unit| unit.modulus() == 0)
+        .map(|place| place as u8)
 }

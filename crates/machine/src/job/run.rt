@@ -3,7 +3,7 @@ ghost use Rattle.calls.specs.Calls.{FeedAsked, FeedAnswers, TickAnswers, Chain, 
 ghost use Rattle.unit.specs.declared.pulse.Pulse.{Pulse};
 
 use crate::job::{OpenJob, SetJob};
-use crate::matching::matches;
+use crate::matching::belongs;
 use net::inputs::Inputs;
 use net::net::Net;
 use ticks::passes::{gather, step_all};
@@ -15,24 +15,21 @@ use unit::unit::Unit;
 // No job makes more ticks than these.
 pub const MOST_TICKS: u32 = 16_777_216;
 
-// How a run ended: the ticks made, and the refusal that stopped it, if any.
-#[derive(Clone, Copy)]
+// How a run ended: the ticks made, and the refusal that stopped it, if any. No `Result`: a refused run has made ticks too.
+#[derive(Clone, Copy, PartialEq, Eq, Debug)]
 pub struct Ran {
     pub made: u32,
     pub refusal: Option<Refusal>,
 }
 
 impl SetJob {
-    // Puts a pulse on an outside line, for the next tick to take.
+    // Puts a pulse on an outside line, for the next tick to take. Line and pulse come as numbers, since it is this call that
+    // refuses those that are none.
     pub fn feed<U>(&self, rack: &[U], net: &mut Net, line: u8, value: i8) -> Result<(), Refusal>
         ensures { FeedAnswers self.now.units rack.now net.old line value result net.new }
     {
-        if !matches(self.units, rack, net) {
-            return Err(Refusal::OtherRackOrNet);
-        }
-        let Some(pulse) = feed_of(line, value) else {
-            return Err(Refusal::NoSuchFeed);
-        };
+        belongs(self.units, rack, net)?;
+        let pulse = feed_of(line, value).ok_or(Refusal::NoSuchFeed)?;
         if net.waits(line as usize) {
             return Err(Refusal::PulseWaiting);
         }
@@ -44,15 +41,14 @@ impl SetJob {
     pub fn tick<U: Unit>(&self, rack: &mut [U], net: &mut Net) -> Result<(), Refusal>
         ensures { TickAnswers U.figures self.now.units rack.old net.old result rack.new net.new }
     {
-        if !matches(self.units, rack, net) {
-            return Err(Refusal::OtherRackOrNet);
-        }
+        belongs(self.units, rack, net)?;
         if net.ticks() >= MOST_TICKS {
             return Err(Refusal::TicksSpent);
         }
+        // an array and no vector, which would count again, tick by tick, what the net's count says
         let none = Inputs {
             x: Pulse::Zero,
-            tally: Tally::of(Pulse::Zero),
+            tally: Tally::from(Pulse::Zero),
         };
         let mut inputs = [none; 64];
         if let Some(unit) = gather(rack, net, &mut inputs) {
@@ -67,12 +63,13 @@ impl SetJob {
         ensures chain { Chain U.figures self.now.units rack.old net.old result.made rack.new net.new }
         ensures ended { Ended U.figures self.now.units ticks result.made result.refusal rack.new net.new }
     {
-        if !matches(self.units, rack, net) {
+        if let Err(refusal) = belongs(self.units, rack, net) {
             return Ran {
                 made: 0,
-                refusal: Some(Refusal::OtherRackOrNet),
+                refusal: Some(refusal),
             };
         }
+        // no index: the ticks made so far are the answer where one is refused
         for made in 0..ticks {
             if let Err(refusal) = self.tick(rack, net) {
                 return Ran {
@@ -91,8 +88,7 @@ impl SetJob {
     pub fn reopen(self) -> OpenJob
         ensures { result.units ≡ self.units }
     {
-        let SetJob { units } = self;
-        OpenJob { units }
+        OpenJob { units: self.units }
     }
 }
 

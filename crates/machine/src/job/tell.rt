@@ -4,11 +4,10 @@ ghost use Rattle.net.specs.Limits.{most_units};
 ghost use Rattle.rows.specs.Rows.{RowWritten};
 
 use crate::job::SetJob;
-use crate::matching::matches;
+use crate::matching::{belongs, place_of};
 use calls::reading::Reading;
 use net::net::Net;
 use rows::write_row;
-use ticks::rack::{position_at, residue_at, weight_at};
 use unit::refusal::Refusal;
 use unit::unit::Unit;
 
@@ -17,13 +16,9 @@ impl SetJob {
     pub fn read<U: Unit>(&self, rack: &[U], net: &Net, unit: u8) -> Result<Reading, Refusal>
         ensures { ReadAnswers U.figures self.now.units rack.now net.now unit result }
     {
-        if !matches(self.units, rack, net) {
-            return Err(Refusal::OtherRackOrNet);
-        }
-        if unit >= self.units {
-            return Err(Refusal::NotThere);
-        }
-        Ok(reading(rack, net, unit))
+        belongs(self.units, rack, net)?;
+        let place = place_of(unit, self.units)?;
+        Ok(reading(rack, net, place))
     }
 
     // Writes the row of one unit at the start of the buffer, and answers how many bytes it has.
@@ -36,32 +31,23 @@ impl SetJob {
     ) -> Result<usize, Refusal>
         ensures { RowAnswers U.figures self.now.units rack.now net.now unit buffer.old result buffer.new }
     {
-        if !matches(self.units, rack, net) {
-            return Err(Refusal::OtherRackOrNet);
-        }
-        if unit >= self.units {
-            return Err(Refusal::NotThere);
-        }
-        match row_of(unit, reading(rack, net, unit), buffer) {
-            Some(written) => Ok(written),
-            None => Err(Refusal::BufferTooShort),
-        }
+        let told = self.read(rack, net, unit)?;
+        row_of(unit, told, buffer).ok_or(Refusal::BufferTooShort)
     }
 }
 
 // What there is to tell of the unit at a place of the rack.
-fn reading<U: Unit>(rack: &[U], net: &Net, unit: u8) -> Reading
-    requires there { unit < length rack.now }
-    requires few { unit < most_units }
-    ensures { Reads U.figures rack.now net.now unit result }
+fn reading<U: Unit>(rack: &[U], net: &Net, place: usize) -> Reading
+    requires there { place < length rack.now }
+    requires few { place < most_units }
+    ensures { Reads U.figures rack.now net.now place result }
 {
-    let place = unit as usize;
     let record = net.record(place);
     Reading {
         ticks: net.ticks(),
-        position: position_at(rack, place),
-        residue: residue_at(rack, place),
-        weight: weight_at(rack, place),
+        position: rack[place].position(),
+        residue: rack[place].residue(),
+        weight: rack[place].weight(),
         net: record.net,
         work: record.work,
         line: record.line,

@@ -1,7 +1,7 @@
 ghost use Rattle.calls.specs.Calls.{PlugAnswers, ClearAnswers, WithTap};
 
 use crate::job::OpenJob;
-use crate::matching::matches;
+use crate::matching::{belongs, place_of};
 use net::net::Net;
 use net::record::Record;
 use unit::refusal::Refusal;
@@ -9,7 +9,7 @@ use wires::source::Source;
 use wires::tap::{Input, Sign, Tap};
 
 impl OpenJob {
-    // One tap more of one unit: sign and source by their numbers.
+    // One tap more of one unit. Sign and source come as numbers, since it is this call that refuses those that name nothing.
     pub fn plug<U>(
         &self,
         rack: &[U],
@@ -21,39 +21,24 @@ impl OpenJob {
     ) -> Result<(), Refusal>
         ensures { PlugAnswers self.now.units rack.now net.old unit input sign source result net.new }
     {
-        if !matches(self.units, rack, net) {
-            return Err(Refusal::OtherRackOrNet);
-        }
-        let Some(sign) = Sign::of(sign) else {
-            return Err(Refusal::FigureOutOfRange);
-        };
-        let Some(source) = Source::of(source, self.units) else {
-            return Err(Refusal::NoSuchSource);
-        };
-        if unit >= self.units {
-            return Err(Refusal::NotThere);
-        }
-        match with_tap(net.record(unit as usize), input, Tap { sign, source }) {
-            Some(record) => {
-                net.store(unit as usize, record);
-                Ok(())
-            }
-            None => Err(Refusal::TapTaken),
-        }
+        belongs(self.units, rack, net)?;
+        let sign = Sign::try_from(sign)?;
+        let source = Source::of(source, self.units).ok_or(Refusal::NoSuchSource)?;
+        let place = place_of(unit, self.units)?;
+        let tap = Tap { sign, source };
+        let record = with_tap(net.record(place), input, tap).ok_or(Refusal::TapTaken)?;
+        net.store(place, record);
+        Ok(())
     }
 
     // Takes all taps of one unit away.
     pub fn clear<U>(&self, rack: &[U], net: &mut Net, unit: u8) -> Result<(), Refusal>
         ensures { ClearAnswers self.now.units rack.now net.old unit result net.new }
     {
-        if !matches(self.units, rack, net) {
-            return Err(Refusal::OtherRackOrNet);
-        }
-        if unit >= self.units {
-            return Err(Refusal::NotThere);
-        }
-        let record = net.record(unit as usize).cleared();
-        net.store(unit as usize, record);
+        belongs(self.units, rack, net)?;
+        let place = place_of(unit, self.units)?;
+        let record = net.record(place).cleared();
+        net.store(place, record);
         Ok(())
     }
 }
@@ -63,15 +48,8 @@ fn with_tap(record: Record, input: Input, tap: Tap) -> Option<Record>
     ensures { WithTap input «record» tap result }
 {
     match input {
-        Input::X => {
-            if record.x.is_some() {
-                return None;
-            }
-            Some(record.with_x(tap))
-        }
-        Input::Y => match record.free_y() {
-            Some(k) => Some(record.with_y(k, tap)),
-            None => None,
-        },
+        Input::X if record.x.is_some() => None,
+        Input::X => Some(record.with_x(tap)),
+        Input::Y => record.free_y().map(|k| record.with_y(k, tap)),
     }
 }

@@ -27,7 +27,7 @@ impl Net {
         requires { self.old.count < most_units }
         ensures { UnitAdded self.old self.new }
     {
-        self.table.put(self.count as usize, Record::BLANK);
+        self.table.put(usize::from(self.count), Record::BLANK);
         self.count += 1;
     }
 
@@ -47,8 +47,7 @@ impl Net {
         requires { l < 4 }
         ensures { result ≡ is_some (slice_index_or self.now.outside l None) }
     {
-        let waiting = self.outside[l];
-        waiting.is_some()
+        self.outside[l].is_some()
     }
 
     // A pulse put on the outside line l.

@@ -28,31 +28,16 @@ impl Net {
         requires { i < most_units }
         ensures { result ≡ record_at self.now.table.records i }
     {
-        self.table.get(i)
-    }
-
-    // The pulse on the line of the unit at place j.
-    fn line(&self, j: u8) -> Pulse
-        ensures { result ≡ (record_at self.now.table.records j).line }
-    {
-        if j < 64 {
-            self.table.get(j as usize).line
-        } else {
-            Pulse::Zero
-        }
+        *self.table.get(i)
     }
 
     // What waits on the outside line l.
     fn waiting(&self, l: u8) -> Pulse
         ensures { result ≡ or_zero (slice_index_or self.now.outside l None) }
     {
-        if l < 4 {
-            match self.outside[l as usize] {
-                Some(pulse) => pulse,
-                None => Pulse::Zero,
-            }
-        } else {
-            Pulse::Zero
+        match self.outside.get(usize::from(l)) {
+            Some(Some(pulse)) => *pulse,
+            _ => Pulse::Zero,
         }
     }
 
@@ -61,7 +46,7 @@ impl Net {
         ensures { result ≡ given self.now source }
     {
         match source {
-            Source::Place(j) => self.line(j),
+            Source::Place(j) => self.table.line(usize::from(j)),
             Source::Outside(l) => self.waiting(l),
             Source::Clock => Pulse::Plus,
         }
@@ -71,22 +56,21 @@ impl Net {
     fn delivered(&self, tap: Option<Tap>) -> Pulse
         ensures { result ≡ delivered self.now tap }
     {
-        match tap {
-            Some(tap) => tap.sign.times(self.given(tap.source)),
-            None => Pulse::Zero,
-        }
+        tap.map_or(Pulse::Zero, |tap| tap.sign.times(self.given(tap.source)))
     }
 
     // The sum of what the y taps deliver.
-    fn tally(&self, y: [Option<Tap>; 4]) -> Tally
-        ensures { result.value ≡ sum self.now y }
+    fn tally(&self, y: &[Option<Tap>; 4]) -> Tally
+        ensures { result.value ≡ sum self.now y.now }
     {
+        // Four calls: with `y.map(..)` a tick of two units takes 8 % longer.
         let [a, b, c, d] = y;
-        let a = self.delivered(a);
-        let b = self.delivered(b);
-        let c = self.delivered(c);
-        let d = self.delivered(d);
-        Tally::of_four(a, b, c, d)
+        Tally::from([
+            self.delivered(*a),
+            self.delivered(*b),
+            self.delivered(*c),
+            self.delivered(*d),
+        ])
     }
 
     // The inputs of the unit at place i, as the lines stand.
@@ -97,7 +81,7 @@ impl Net {
         let record = self.table.get(i);
         Inputs {
             x: self.delivered(record.x),
-            tally: self.tally(record.y),
+            tally: self.tally(&record.y),
         }
     }
 }

@@ -1,18 +1,12 @@
-use Rattle.std.proofs.Common.{arith, rules}
-use Rattle.buffer.proofs.Puts.{then}
-use Rattle.rows.proofs.Rows.{row_parts, length-parts}
+use Rattle.std.proofs.Common.{rules}
+use Rattle.buffer.proofs.Appending.{then}
+use Rattle.rows.proofs.Rows.{row_none, row_parts}
+use Rattle.rows.proofs.put_row.Goals.{in_default, in-len1-up}
 use Rattle.rows.proofs.put_row.Goals as goal
 
-pub put_number-end-requires : goal.put_number-end-requires
-put_number-end-requires c = omega (arith, length-parts c.args.fields.now (search rules) (search rules))
-
-pub put_spaced-end-requires : goal.put_spaced-end-requires
-put_spaced-end-requires c = omega (arith, length-parts c.args.fields.now (search rules) (search rules))
-
-pub put_byte-requires-in-len1-up : goal.put_byte-requires-in-len1-up
-put_byte-requires-in-len1-up c = omega (arith, length-parts c.args.fields.now (search rules) (search rules))
-
-pub returns-in-len1-up : goal.returns-in-len1-up
-returns-in-len1-up c =
-    rw (row_parts c.args.fields.now (search rules) (search rules))
-    (then c.put_number-end.ensures (then c.put_spaced-end.ensures c.put_byte-in-len1-up.ensures))
+pub returns : goal.returns
+returns c = elim c.if-fields-lt1.branch [
+  | in_default w ↦ rw (row_none c.args.fields.now w.in_default.len_below) (rw w.row-is at c.push.ensures)
+  | in-len1-up w ↦ rw (row_parts c.args.fields.now w.in-len1-up.len_at_least (search rules))
+      (then w.put_number.ensures (then w.put_spaced.ensures (rw w.row-is at c.push.ensures)))
+]

@@ -27,24 +27,25 @@ returns-in_default-with c = λ above n w.
 ordered : (c : In-Some-with) (above : List Frame) (n : ℕ) → TailWanted above c.args.count c.args.latest n → Ordered above (tap c.args.input c.in-Some.unit c.in-Some.sign c.in-Some.source)
 ordered c above n w = (c.in-Some-with.ensures above n c.in-Some.sign c.in-Some.source w.turn (omega (arith, w.counted))).ordered
 
+pub returns-in_default-try_from : goal.returns-in_default-try_from
+returns-in_default-try_from c = λ above n w.
+    bad_figure above _ _ (says (goal.at.returns-in_default-try_from c).In-Some) w.stand (ordered (goal.at.returns-in_default-try_from c).In-Some-with above n w)
+    (λ r. c.in_default-try_from.ensures.0 r.0 r.1)
+
 pub returns-in_default-of : goal.returns-in_default-of
 returns-in_default-of c = λ above n w.
-    bad_figure above _ _ (says (goal.at.returns-in_default-of c).In-Some) w.stand (ordered (goal.at.returns-in_default-of c).In-Some-with above n w) (λ r. c.in_default-of.ensures r.0 r.1)
-
-pub returns-in_default-of-2 : goal.returns-in_default-of-2
-returns-in_default-of-2 c = λ above n w.
-    bad_source above _ _ (says (goal.at.returns-in_default-of-2 c).In-Some) w.stand (ordered (goal.at.returns-in_default-of-2 c).In-Some-with above n w)
-    (c.in-Some-of.sign, c.in-Some-of.ensures)
-    (λ r. c.in_default-of-2.ensures r.0 (subst (λ k. there k r.0 ≡ true) w.counted r.1) r.2)
+    bad_source above _ _ (says (goal.at.returns-in_default-of c).In-Some) w.stand (ordered (goal.at.returns-in_default-of c).In-Some-with above n w)
+    (c.in-Ok.sign, c.in-Ok.ensures)
+    (λ r. c.in_default-of.ensures r.0 (subst (λ k. there k r.0 ≡ true) w.counted r.1) r.2)
 
 pub returns : goal.returns
 returns c = λ above n w.
     let u = c.in-Some.unit in
-    let sign = c.in-Some-of.sign in
-    let source = c.in-Some-of-2.source in
-    let found = c.in-Some-of-2.ensures in
+    let sign = c.in-Ok.sign in
+    let source = c.in-Some-of.source in
+    let found = c.in-Some-of.ensures in
     let same : tap c.args.input u c.in-Some.sign c.in-Some.source ≡ tap c.args.input u (figure_of sign) (code_of source) =
-    λ i. tap c.args.input u (sym c.in-Some-of.ensures i) (sym found.1 i) in
+    λ i. tap c.args.input u (sym c.in-Ok.ensures i) (sym found.1 i) in
     let s = subst (Says (tap_letter c.args.input ∷ c.args.digits.now)) same (says (goal.at.returns c).In-Some) in
     let stands = c.in-Some-with.ensures above n (figure_of sign) (code_of source) w.turn (omega (arith, w.counted)) in
     record {

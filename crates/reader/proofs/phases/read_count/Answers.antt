@@ -1,17 +1,20 @@
-use Rattle.std.proofs.Common.{◌+◌, refl, ap, ◌∙◌}
+use Rattle.std.proofs.Common.{rules, of_calls, Result, Ok, Err, List, ℕ, []}
+use Rattle.std.specs.Result.{MatchResult}
+use Rattle.entries.specs.Entries.{CountEntry}
+use Rattle.frames.specs.Faults.{Fault}
+use Rattle.lines.specs.Lines.{Advanced}
 use Rattle.lines.specs.declared.reader.LineReader.{LineReader}
-use Rattle.reader.proofs.Reading.{more, wrong_line, missing_line, one_line, fault_as}
+use Rattle.lines.specs.declared.reader.Part.{Part}
+use Rattle.unit.specs.declared.refusal.TextFault.{TextFault}
+use Rattle.reader.specs.Phases.{Reading, CountRead}
+use Rattle.reader.proofs.Reading.{advanced, more, entry_or_wrong}
 use Rattle.reader.proofs.phases.read_count.Goals as goal
 
-pub returns-in_default : goal.returns-in_default
-returns-in_default c =
-    let e = c.in_default.ensures in
-    fault_as _ _ _ _ _ c.missing.ensures.refusal (c.missing.ensures.line ∙ ap (λ n. n + 1) (ap (λ (r : LineReader). r.lines) e.same ∙ c.requires.numbered)) (missing_line c.requires e.end refl)
+counted : {before later : LineReader} {t : List ℕ} → Reading before t [] → {part : Part} → Advanced before part later → (out : Result ℕ TextFault) → MatchResult out (λ n. CountEntry part.bytes.now (Ok n)) (λ f. Fault t f.refusal f.line) → CountRead t out later
+counted r a (Ok n) h = more r a _ h.0 h.1
+counted r a (Err f) h = h
 
-pub returns-in-Ok : goal.returns-in-Ok
-returns-in-Ok c = let told = c.in-Ok.ensures in more c.requires c.in-Some.ensures _ told.0 told.1
-
-pub returns-in-Err : goal.returns-in-Err
-returns-in-Err c =
-    let a = c.in-Some.ensures in
-    fault_as _ _ _ _ _ c.wrong.ensures.refusal (c.wrong.ensures.line ∙ one_line c.requires a) (wrong_line c.requires a _ c.in-Err.ensures)
+pub returns : goal.returns
+returns c =
+    let a = advanced c.in_ok-line.ensures.ok_part c.next.ensures.steps in
+    counted c.requires a c.map_err.result (entry_or_wrong c.requires a (CountEntry c.in_ok-line.line.bytes.now) (λ e h. h) c.count_entry.result c.map_err.result _ c.map_err.ensures.cases c.count_entry.ensures (λ e f w. search (rules, of_calls)))

@@ -1,43 +1,57 @@
-use Rattle.std.proofs.Common.{◌≡◌, ◌+◌, ◌≤◌, length, Ok, ap, ◌∙◌, subst, arith, rules}
-use Rattle.entries.specs.Entries.{TailEntry, TapRead}
+use Rattle.std.proofs.Common.{◌≡◌, length, None, Ok, refl, subst, rules, of_calls}
+use Rattle.std.specs.Result.{MatchResult}
+use Rattle.std.proofs.lemmas.Result.{MatchResult-at_ok, MatchResult-at_err}
+use Rattle.entries.specs.Entries.{TailEntry}
 use Rattle.entries.specs.declared.taps.Tail.{Tail}
-use Rattle.lines.specs.declared.reader.LineReader.{LineReader}
+use Rattle.frames.specs.Faults.{Fault}
+use Rattle.frames.specs.Frames.{last}
 use Rattle.sheet.specs.Patches.{unit_frames, tap_frames}
-use Rattle.reader.proofs.Reading.{wrong_line, missing_line, one_line, fault_as}
-use Rattle.reader.proofs.Tapping.{start, few_units, wanted, open_end, place, tap_more, ended}
+use Rattle.unit.proofs.Exits.{passed_on}
+use Rattle.reader.proofs.Reading.{more, missing_told, entry_or_wrong}
+use Rattle.reader.proofs.Tapping.{start, few_units, wanted, open_end, place, tap_more}
 use Rattle.reader.proofs.phases.read_taps.Goals as goal
+use Rattle.reader.proofs.phases.read_taps.Goals.{After-map_err}
 
 pub overflow_cast-count : goal.overflow_cast-count
-overflow_cast-count c = let few = few_units _ _ _ _ _ c.requires.reading in search (rules, few)
+overflow_cast-count c = let few = few_units _ _ _ _ _ c.requires in search (rules, few)
 
 pub loop-line-init : goal.loop-line-init
-loop-line-init c = start _ c.args.units.now _ c.args.plugs.now _ _ c.requires.reading c.requires.long c.start-latest.ensures
+loop-line-init c = rw c.new-plugs.ensures (start _ c.args.units.now _ _ _ c.requires c.start-latest.ensures)
 
-pub returns-in-Err : goal.returns-in-Err
-returns-in-Err c =
-    let a = c.in-Some.ensures in
-    let s = c.loop-line.invariant in
-    fault_as _ _ _ _ _ c.wrong.ensures.refusal (c.wrong.ensures.line ∙ one_line s.reading a) (wrong_line s.reading a _ (c.in-Err.ensures _ _ (wanted s)))
+-- what the line says below the taps so far
+abbrev Said : After-map_err → Tail → Type 0
+Said c tail =
+    let us = c.args.units.now in
+    let ps = c.loop-line.plugs.items in
+    TailEntry (tap_frames (unit_frames (length us) us (length us)) ps (length ps)) (length us) (length ps) c.in-Some.line.bytes.now (Ok tail)
 
--- what the line was told to say, at the tail that the match found
-said : (c : goal.In-Last) (t : Tail) → c.in-Ok.tail ≡ t → TailEntry (tap_frames (unit_frames (length c.args.units.now) c.args.units.now (length c.args.units.now)) c.loop-line.plugs c.loop-line.taps) (length c.args.units.now) c.loop-line.taps c.in-Some.line.bytes.now (Ok t)
-said c t e = subst (λ z. TailEntry (tap_frames (unit_frames (length c.args.units.now) c.args.units.now (length c.args.units.now)) c.loop-line.plugs c.loop-line.taps) (length c.args.units.now) c.loop-line.taps c.in-Some.line.bytes.now (Ok z)) e (c.in-Ok.ensures _ _ (wanted c.loop-line.invariant))
+entry : (c : After-map_err) → MatchResult c.map_err.result (Said c) (λ f. Fault c.args.lines.now.text.now f.refusal f.line)
+entry c =
+    let us = c.args.units.now in
+    let ps = c.loop-line.plugs.items in
+    let above = tap_frames (unit_frames (length us) us (length us)) ps (length ps) in
+    entry_or_wrong c.loop-line.invariant.reading c.in-Some.ensures.steps (TailEntry above (length us) (length ps) c.in-Some.line.bytes.now) (λ e h. h) c.tail_entry.result c.map_err.result _ c.map_err.ensures.cases
+    (c.tail_entry.ensures above (length ps) (wanted c.loop-line.invariant)) (λ e f w. search (rules, of_calls))
 
-tapped : (c : goal.In-Tap) → TapRead (tap_frames (unit_frames (length c.args.units.now) c.args.units.now (length c.args.units.now)) c.loop-line.plugs c.loop-line.taps) (length c.args.units.now) c.loop-line.taps c.in-Some.line.bytes.now c.in-Tap.plug c.in-Tap.next
-tapped c = subst (λ z. TailEntry (tap_frames (unit_frames (length c.args.units.now) c.args.units.now (length c.args.units.now)) c.loop-line.plugs c.loop-line.taps) (length c.args.units.now) c.loop-line.taps c.in-Some.line.bytes.now (Ok z)) c.in-Tap.is (c.in-Ok.ensures _ _ (wanted c.loop-line.invariant))
+pub returns-in_err-tail : goal.returns-in_err-tail
+returns-in_err-tail c = rw (passed_on _ c.from_residual.ensures.1) (MatchResult-at_err _ _ _ c.in_err-tail.was (entry (goal.at.returns-in_err-tail c).After-map_err))
+
+said : (c : After-map_err) (tail told : Tail) → c.map_err.result ≡ Ok tail → tail ≡ told → Said c told
+said c tail told was is = subst (Said c) is (MatchResult-at_ok _ _ _ was (entry c))
 
 pub returns-in-Last : goal.returns-in-Last
-returns-in-Last c = ended c.loop-line.invariant c.in-Some.ensures _ _ (said c _ c.in-Last.is)
+returns-in-Last c =
+    let s = c.loop-line.invariant in
+    let told = said (goal.at.returns-in-Last c).After-map_err _ _ c.in_ok-tail.was c.in-Last.is in
+    record { room = s.room; sourced = s.sourced; reading = more s.reading c.in-Some.ensures.steps (last c.in-Last.ticks c.in-Last.step) told.keeps told.is }
 
-pub bounds-plugs-taps : goal.bounds-plugs-taps
-bounds-plugs-taps c = omega (arith, place c.loop-line.invariant c.in-Some.ensures _ _ (tapped c), c.loop-line.invariant.plugs.long)
+pub push-requires : goal.push-requires
+push-requires c =
+    let h = place c.loop-line.invariant c.in-Some.ensures.steps _ _ (said (goal.at.push-requires c).After-map_err _ _ c.in_ok-tail.was c.in-Tap.is) in
+    search (rules, h)
 
 pub loop-line-preserved : goal.loop-line-preserved
-loop-line-preserved c = tap_more c.loop-line.invariant c.in-Some.ensures _ _ (tapped c)
+loop-line-preserved c = rw c.push.ensures.items (tap_more c.loop-line.invariant c.in-Some.ensures.steps _ _ (said (goal.at.loop-line-preserved c).After-map_err _ _ c.in_ok-tail.was c.in-Tap.is))
 
 pub returns : goal.returns
-returns c =
-    let e = c.in_default.ensures in
-    let r = c.loop-line.invariant.reading in
-    fault_as _ _ _ _ _ c.missing.ensures.refusal (c.missing.ensures.line ∙ ap (λ n. n + 1) (ap (λ (l : LineReader). l.lines) e.same ∙ r.numbered))
-    (missing_line r (subst (λ t. length t ≤ c.loop-line.lines.at) r.text_is e.end) (open_end c.loop-line.invariant))
+returns c = missing_told c.loop-line.invariant.reading None _ c.missing.result c.missing.result c.in_default.ensures.steps refl (open_end c.loop-line.invariant) c.missing.ensures.refusal c.missing.ensures.line

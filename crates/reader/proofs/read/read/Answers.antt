@@ -1,4 +1,4 @@
-use Rattle.std.proofs.Common.{◌≡◌, ℕ, List, Ok, Err, sym, refl, ◌∙◌}
+use Rattle.std.proofs.Common.{◌≡◌, ℕ, List, Ok, Err, sym, ◌∙◌}
 use Rattle.frames.specs.Faults.{Fault}
 use Rattle.frames.proofs.OneFault.{one_fault}
 use Rattle.sheet.specs.Texts.{written}
@@ -6,6 +6,7 @@ use Rattle.sheet.specs.declared.sheet.Sheet.{Sheet}
 use Rattle.sheet.proofs.Exactness.{no_sheet_fault, same_sheet}
 use Rattle.texts.proofs.First.{first_line}
 use Rattle.unit.specs.declared.refusal.TextFault.{TextFault}
+use Rattle.unit.proofs.Exits.{passed_on}
 use Rattle.reader.specs.Answers.{OnlyAnswer}
 use Rattle.reader.proofs.read.read.Goals as goal
 
@@ -18,8 +19,11 @@ only_fault t f later h = record {
   fault = λ k n g. let p = one_fault t f.refusal k f.line n h g in λ i. Err (record { refusal = p.0 i; line = p.1 i });
 }
 
-pub returns-in-Ok : goal.returns-in-Ok
-returns-in-Ok c = let e = c.in-Ok.ensures in record { read = e; only = only_sheet _ _ c.in-Ok.found e; first = tt }
+pub returns-clause-only : goal.returns-clause-only
+returns-clause-only c = only_sheet _ _ c.in_ok-sheet.field-0 c.in_ok-sheet.ensures
 
-pub returns-in-Err : goal.returns-in-Err
-returns-in-Err c = let h = c.in-Err.ensures in record { read = (h, refl); only = only_fault _ c.in-Err.fault _ h; first = first_line _ _ _ h }
+pub returns-in_err-sheet-clause-only : goal.returns-in_err-sheet-clause-only
+returns-in_err-sheet-clause-only c = rw (passed_on _ c.from_residual.ensures.1) (only_fault _ _ _ c.in_err-sheet.ensures)
+
+pub returns-in_err-sheet-clause-first : goal.returns-in_err-sheet-clause-first
+returns-in_err-sheet-clause-first c = rw (passed_on _ c.from_residual.ensures.1) (first_line _ _ _ c.in_err-sheet.ensures)

@@ -1,40 +1,44 @@
-use Rattle.std.proofs.Common.{ℕ, ◌<◌, T, sym, refl, subst, arith}
-use Rattle.std.proofs.lemmas.Bool.Decides.{not_from_Decides}
+use Rattle.std.proofs.Common.{◌<◌, T, arith}
+use Rattle.unit.specs.declared.refusal.Refusal.TheVariants.{NoSuchSource, NotThere, TapTaken}
 use Rattle.wires.specs.Sources.{there}
-use Rattle.wires.specs.declared.tap.Tap.{Tap}
 use Rattle.net.specs.Limits.{most_units}
-use Rattle.calls.specs.Calls.{other, for_fault, no_sign, no_source, no_unit, taken}
+use Rattle.calls.specs.Calls.{PlugFault, no_source, no_unit, taken, TapAsked}
+use Rattle.machine.proofs.Refusing.{refused_for}
 use Rattle.machine.proofs.Wiring.{with_tap_storable, storable}
 use Rattle.machine.proofs.job.OpenJob.plug.Goals as goal
+use Rattle.machine.proofs.job.OpenJob.plug.Goals.{In_ok-source}
 
-pub returns-then-not-matches : goal.returns-then-not-matches
-returns-then-not-matches g c = (other (not_from_Decides _ c.matches.ensures c.if-not-matches.true), refl)
+-- the tap that is asked for
+asked : (g : _) (c : In_ok-source g) → TapAsked c.args.self.now.units c.args.rack.now c.args.net.now c.args.sign c.args.source (record { sign = c.in_ok-sign.sign; source = c.in_ok-source.source })
+asked g c = let source = rw c.in_ok-source.ensures.ok_part at c.of.ensures in record { sign = c.in_ok-sign.ensures; there = source.0; source = source.1 }
 
-pub returns-in_default : goal.returns-in_default
-returns-in_default g c = (for_fault (c.matches.ensures.0 c.if-not-matches.false) (no_sign c.in_default.ensures), refl)
+pub returns-in_err-source : goal.returns-in_err-source
+returns-in_err-source g c =
+    let a = c.args in
+    let none = rw c.in_err-source.ensures.ok_part at c.of.ensures in
+    let fault : PlugFault a.self.now.units a.rack.now a.net.now a.unit a.input a.sign a.source NoSuchSource = no_source c.in_ok-sign.sign c.in_ok-sign.ensures none in
+    grind (arith, refused_for)
 
-pub returns-in_default-of : goal.returns-in_default-of
-returns-in_default-of g c = (for_fault (c.matches.ensures.0 c.if-not-matches.false) (no_source c.in-Some.sign c.in-Some.ensures c.in_default-of.ensures), refl)
+pub returns-in_err-place : goal.returns-in_err-place
+returns-in_err-place g c =
+    let a = c.args in
+    let fault : PlugFault a.self.now.units a.rack.now a.net.now a.unit a.input a.sign a.source NotThere =
+    no_unit _ (asked g (goal.at.returns-in_err-place g c).In_ok-source) c.in_err-place.ensures.0 in
+    grind (arith, refused_for)
 
-pub returns-then-unit-self : goal.returns-then-unit-self
-returns-then-unit-self g c =
-    let source = c.in-Some-of.ensures in
-    let tap : Tap = record { sign = c.in-Some.sign; source = c.in-Some-of.source } in
-    (for_fault (c.matches.ensures.0 c.if-not-matches.false) (no_unit tap (record { sign = c.in-Some.ensures; there = source.0; source = source.1 }) c.if-unit-self.true), refl)
+pub returns-in_err-record : goal.returns-in_err-record
+returns-in_err-record g c =
+    let a = c.args in
+    let none = rw (c.in_err-record.ensures.ok_part, c.record.ensures, c.in_ok-place.ensures.1) at c.with_tap.ensures in
+    let fault : PlugFault a.self.now.units a.rack.now a.net.now a.unit a.input a.sign a.source TapTaken =
+    taken _ (asked g (goal.at.returns-in_err-record g c).In_ok-source) c.in_ok-place.ensures.0 none in
+    grind (arith, refused_for)
 
 pub store-requires : goal.store-requires
 store-requires g c =
     let n = c.args.net.now in
-    let i = c.args.unit in
-    let few : i < most_units = omega (arith, c.args.self.now.few, c.if-unit-self.false) in
-    let belongs = c.matches.ensures.0 c.if-not-matches.false in
-    let source = c.in-Some-of.ensures in
-    let is-there : T (there n.count c.in-Some-of.source) = subst (λ (k : ℕ). T (there k c.in-Some-of.source)) (sym belongs.count) (subst T (sym source.0) tt) in
-    let s = with_tap_storable n c.args.input c.record.result (record { sign = c.in-Some.sign; source = c.in-Some-of.source }) c.in-Some-with_tap.record is-there (rw c.record.ensures (storable n i few)) c.in-Some-with_tap.ensures in
+    let few : c.in_ok-place.place < most_units = omega (arith, c.args.self.now.few, c.in_ok-place.ensures) in
+    let found = rw c.in_ok-record.ensures.ok_part at c.with_tap.ensures in
+    let is-there : T (there n.count c.in_ok-source.source) = rw (c.in_ok-belongs.ensures.count, (asked g (goal.at.store-requires g c).In_ok-source).there) tt in
+    let s = with_tap_storable n c.args.input c.record.result _ c.in_ok-record.record is-there (rw c.record.ensures (storable n c.in_ok-place.place few)) found in
     record { there = few; net = s.net; work = s.work; wired = s.wired }
-
-pub returns-in-None : goal.returns-in-None
-returns-in-None g c =
-    let source = c.in-Some-of.ensures in
-    let tap : Tap = record { sign = c.in-Some.sign; source = c.in-Some-of.source } in
-    (for_fault (c.matches.ensures.0 c.if-not-matches.false) (taken tap (record { sign = c.in-Some.ensures; there = source.0; source = source.1 }) c.if-unit-self.false (rw c.record.ensures at c.in-None.ensures)), refl)

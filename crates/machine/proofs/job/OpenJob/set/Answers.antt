@@ -1,8 +1,7 @@
-use Rattle.machine.proofs.Setting.{law_of}
+use Rattle.calls.proofs.Laws.{set_law}
 use Rattle.machine.proofs.job.OpenJob.set.Goals as goal
 
-pub returns : goal.returns
-returns g c = record {
-  answers = c.set_up.ensures;
-  law = law_of g.U.Unit.figures g.met.U.Unit.lawful c.args.self.units c.args.rack.now c.args.net.now c.set_up.result c.set_up.new.net c.set_up.ensures;
-}
+pub returns-clause-law : goal.returns-clause-law
+returns-clause-law g c =
+    let may = c.in_default.ensures in
+    set_law g.U.Unit.figures g.met.U.Unit.lawful c.args.self.units c.args.rack.now c.args.net.now c.reset.new.self may.0 may.2 c.reset.ensures

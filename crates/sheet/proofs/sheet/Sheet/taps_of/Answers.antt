@@ -1,19 +1,27 @@
-use Rattle.std.proofs.Common.{ℕ, ◌+◌, ◌-◌, ◌≤◌, List, take, drop, ap, ◌∙◌, subst, ⊎_elim, arith}
-use Rattle.std.proofs.lemmas.Bool.{cases_lt}
-use Rattle.sheet.specs.Views.{FirstFrom, taps_of}
+use Rattle.std.proofs.Common.{leb, ltb, rules, of_calls}
+use Rattle.std.proofs.lemmas.List.Sorted.{IsPartitionedBy-leb, IsPartitionedBy-ltb, IsPartitionPoint-from_clause}
+use Rattle.std.specs.List.Sorted.{IsNonDecreasingBy}
 use Rattle.sheet.specs.declared.parts.Plug.{Plug}
-use Rattle.sheet.proofs.Rising.{together}
+use Rattle.sheet.proofs.Rising.{sheet_rising, Between, ordered, together}
 use Rattle.sheet.proofs.sheet.Sheet.taps_of.Goals as goal
+use Rattle.sheet.proofs.sheet.Sheet.taps_of.Goals.{After-partition_point-end}
 
--- the first tap of a later unit comes no earlier
-later : (ps : List Plug) (u a b : ℕ) → FirstFrom ps u a → FirstFrom ps (u + 1) b → a ≤ b
-later ps u a b low high = ⊎_elim (λ lt. absurd (omega (arith, low.before b lt, high.at (omega (arith, low.within))))) (λ le. le) (cases_lt b a)
+between : (c : After-partition_point-end) → Between c.taps-taps.result.now c.args.unit c.partition_point-start.result c.partition_point-end.result
+between c =
+    let ps = c.taps-taps.result.now in
+    let u = c.args.unit in
+    let rising : IsNonDecreasingBy (λ (p : Plug). p.unit) ps = rw c.taps-taps.ensures (sheet_rising c.args.self.now) in
+    record {
+      within = c.partition_point-start.ensures.bound;
+      low = IsPartitionPoint-from_clause (λ (p : Plug). ltb p.unit u) ps _ c.partition_point-start.ensures.partitioned (IsPartitionedBy-ltb (λ (p : Plug). p.unit) ps u rising) (λ a r f k. search (rules, of_calls));
+      high = IsPartitionPoint-from_clause (λ (p : Plug). leb p.unit u) ps _ c.partition_point-end.ensures.partitioned (IsPartitionedBy-leb (λ (p : Plug). p.unit) ps u rising) (λ a r f k. search (rules, of_calls));
+    }
+
+pub slice_bounds-result-count : goal.slice_bounds-result-count
+slice_bounds-result-count c = ordered _ _ _ _ (between (goal.at.slice_bounds-result-count c).After-partition_point-end)
+
+pub slice_bounds-result-start : goal.slice_bounds-result-start
+slice_bounds-result-start c = let h = ordered _ _ _ _ (between (goal.at.slice_bounds-result-start c).After-partition_point-end) in search (rules, h)
 
 pub returns : goal.returns
-returns c =
-    let s = c.args.self.now in
-    let a = c.first_from-start.result in
-    let b = c.first_from-end.result in
-    let low = subst (λ u. FirstFrom (taps_of s) u a) c.from.ensures (subst (λ ps. FirstFrom ps c.from.result a) c.taps-taps.ensures c.first_from-start.ensures) in
-    let high = subst (λ u. FirstFrom (taps_of s) (u + 1) b) c.from-2.ensures (subst (λ ps. FirstFrom ps (c.from-2.result + 1) b) c.taps-taps.ensures c.first_from-end.ensures) in
-    ap (λ ps. take (b - a) (drop a ps)) c.taps-taps.ensures ∙ together s c.args.unit a b (later (taps_of s) c.args.unit a b low high) low high
+returns c = rw (← c.taps-taps.ensures) (together _ _ _ _ (between (goal.at.returns c).After-partition_point-end))
