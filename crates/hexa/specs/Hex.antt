@@ -25,10 +25,11 @@ Writable ws vs = AllZip (λ w v. v < 16 ^ w) ws vs
 abbrev pub NoDigit : ℕ → Type 0
 NoDigit b = (v : ℕ) → v < 16 → b ≢ digit v
 
--- k bytes, each of them a digit
+-- the byte is the digit of some number below 16
 abbrev pub IsDigit : ℕ → Type 0
 IsDigit b = (v : ℕ) × (v < 16) × (b ≡ digit v)
 
+-- k bytes, each of them a digit
 pub record Digits (k : ℕ) (ds : List ℕ) : Type 0 where
   pub many : length ds ≡ k
   pub each : (i : ℕ) → i < length ds → IsDigit (slice_index ds i)

@@ -8,18 +8,16 @@ pub mod run;
 pub mod tell;
 pub mod wiring;
 
-// Two plain types, and no `Job<State>`: they have one number and no method in common, which a marker would not make plainer.
-
-// Rack and net are lent at each call, apart: both are the caller's, who reads the rack between calls.
-
-// A job whose rack and net may be changed: it takes place, plug, clear and set.
+// A job whose rack and net may be changed: it takes place, plug, clear and set. Rack and net are lent at each call, apart: both
+// are the caller's, who reads the rack between calls.
 #[derive(Debug, Drop)]
 pub struct OpenJob {
     units: u8,
     ghost few: { units ≤ most_units },
 }
 
-// A job that runs: it takes feed, tick, run, read, row and reopen.
+// A job that runs: it takes feed, tick, run, read, row and reopen. No `Job<State>` for both: they have one number and no method in
+// common, which a marker would not make plainer.
 #[derive(Debug, Drop)]
 pub struct SetJob {
     units: u8,

@@ -4,7 +4,7 @@ ghost use Rattle.buffer.specs.Cursor.{rest, Appends};
 ghost use Rattle.hexa.specs.Hex.{hexes};
 ghost use Rattle.sheet.specs.Patches.{unit_frame, tap_frame, blank_plug};
 ghost use Rattle.wires.specs.Sources.{code_of};
-ghost use Rattle.writer.specs.Lines.{fed, unit_lines, tap_lines};
+ghost use Rattle.writer.specs.Lines.{full_line, unit_lines, tap_lines};
 ghost use Rattle.writer.specs.Sizes.{unit_size, units_size, tap_size};
 
 use buffer::Cursor;
@@ -34,7 +34,7 @@ pub fn put_line<const N: usize>(out: &mut Cursor, letter: u8, widths: [usize; N]
 // The frame of one unit.
 fn put_unit(out: &mut Cursor, unit: u8, figures: UnitFigures)
     requires { unit_size figures ≤ length (rest out.old) }
-    ensures { Appends (fed (unit_frame unit figures)) out.old out.new }
+    ensures { Appends (full_line (unit_frame unit figures)) out.old out.new }
 {
     let unit = u32::from(unit);
     let position = figures.position.cast_unsigned();
@@ -66,7 +66,7 @@ pub fn put_units(out: &mut Cursor, units: &[UnitFigures])
 fn put_tap(out: &mut Cursor, plug: Plug)
     requires room { tap_size ≤ length (rest out.old) }
     requires small { code_of plug.tap.source ≤ 255 }
-    ensures { Appends (fed (tap_frame plug)) out.old out.new }
+    ensures { Appends (full_line (tap_frame plug)) out.old out.new }
 {
     let letter = match plug.input {
         Input::X => b'X',

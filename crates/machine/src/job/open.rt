@@ -4,8 +4,8 @@ ghost use Rattle.machine.specs.Checks.{NextPlace};
 ghost use Rattle.machine.specs.Setting.{MayBeSet, SetAnswers, SetLaw};
 ghost use Rattle.net.specs.Changes.{Empty};
 
+use crate::checks::belongs;
 use crate::job::{NotSet, OpenJob, SetJob};
-use crate::matching::belongs;
 use net::net::Net;
 use unit::refusal::{Refusal, Returned};
 use unit::unit::Unit;

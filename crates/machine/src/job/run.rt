@@ -2,8 +2,8 @@ ghost use Rattle.std.specs.Prelude.{◌≡◌, MatchOption};
 ghost use Rattle.calls.specs.Calls.{FeedAsked, FeedAnswers, TickAnswers, Chain, Ended};
 ghost use Rattle.unit.specs.declared.pulse.Pulse.{Pulse};
 
+use crate::checks::belongs;
 use crate::job::{OpenJob, SetJob};
-use crate::matching::belongs;
 use net::inputs::Inputs;
 use net::net::Net;
 use ticks::passes::{gather, step_all};

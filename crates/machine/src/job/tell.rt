@@ -3,8 +3,8 @@ ghost use Rattle.calls.specs.Readings.{Reads, ReadAnswers, RowAnswers, fields_of
 ghost use Rattle.net.specs.Limits.{most_units};
 ghost use Rattle.rows.specs.Rows.{RowWritten};
 
+use crate::checks::{belongs, place_of};
 use crate::job::SetJob;
-use crate::matching::{belongs, place_of};
 use calls::reading::Reading;
 use net::net::Net;
 use rows::write_row;

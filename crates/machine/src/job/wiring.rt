@@ -1,7 +1,7 @@
 ghost use Rattle.calls.specs.Calls.{PlugAnswers, ClearAnswers, WithTap};
 
+use crate::checks::{belongs, place_of};
 use crate::job::OpenJob;
-use crate::matching::{belongs, place_of};
 use net::net::Net;
 use net::record::Record;
 use unit::refusal::Refusal;

@@ -5,7 +5,7 @@ use Rattle.frames.specs.Frames.{count}
 use Rattle.sheet.specs.Views.{units_of, taps_of}
 use Rattle.sheet.proofs.Sheets.{few}
 use Rattle.writer.specs.Sizes.{units_size}
-use Rattle.writer.proofs.Lining.{length-fed, length-all_units, length-tap_lines}
+use Rattle.writer.proofs.Lining.{length-full_line, length-all_units, length-tap_lines}
 use Rattle.writer.proofs.Whole.{written_length, text_by_lines}
 use Rattle.writer.proofs.write.put_text.Goals as goal
 use Rattle.writer.proofs.write.put_text.Goals.{After-put_line, After-put_units}
@@ -21,7 +21,7 @@ put_units-requires-clause-few c = rw c.units.ensures (few c.args.sheet.now)
 -- what the lines written so far leave, of what the sheet's text takes
 
 below_count : (c : After-put_line) → units_size (units_of c.args.sheet.now) + 8 * length (taps_of c.args.sheet.now) + 14 ≤ length (rest c.put_line.new.out)
-below_count c = omega (arith, written_length c.args.sheet.now, length-rest c.put_line.ensures, length-fed (count c.from.result))
+below_count c = omega (arith, written_length c.args.sheet.now, length-rest c.put_line.ensures, length-full_line (count c.from.result))
 
 below_units : (c : After-put_units) → 8 * length (taps_of c.args.sheet.now) + 14 ≤ length (rest c.put_units.new.out)
 below_units c = omega (arith, below_count (goal.at.After-put_units c).After-put_line, length-rest c.put_units.ensures, length-all_units c.units.result.now, ap units_size c.units.ensures)
