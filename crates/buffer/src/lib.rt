@@ -1,7 +1,7 @@
 // A lent buffer that is filled from its start on. Public for the crates that write lines.
 #![tactic(auto)]
 
-ghost use Rattle.std.specs.Prelude.{◌<◌, ◌≤◌, [], ◌∷◌, length};
+ghost use Rattle.std.specs.Prelude.{◌≡◌, ◌<◌, ◌≤◌, [], ◌∷◌, length};
 
 // The lent buffer, and the place after what was written so far.
 #[derive(Debug, Drop)]
@@ -12,12 +12,19 @@ pub struct Cursor<'a> {
 }
 
 impl<'a> Cursor<'a> {
-    ghost use Rattle.buffer.specs.Cursor.{rest, Begins, Appends};
+    ghost use Rattle.buffer.specs.Cursor.{written, rest, Begins, Appends};
 
     pub fn new(buffer: &'a mut [u8]) -> Cursor<'a>
         ensures { Begins buffer.entry result }
     {
         Cursor { buffer, at: 0 }
+    }
+
+    // How many bytes are written, which is the place after them.
+    pub fn position(&self) -> usize
+        ensures { result ≡ length (written self.now) }
+    {
+        self.at
     }
 
     pub fn push(&mut self, byte: u8)

@@ -1,5 +1,6 @@
--- One more digit, the length, and that a number is known by its digits.
-use Rattle.std.proofs.Common.{◌≡◌, ℕ, zero, suc, ◌+◌, ◌-◌, ◌*◌, ◌/◌, ◌%◌, ◌^◌, ◌<◌, ◌≤◌, [], ◌∷◌, ◌++◌, length, sym, refl, ap, ◌∙◌, pow-suc, add-one, arith}
+-- One more digit, the digits of a number without its last ones, the length, and that a number is known by its digits.
+use Rattle.std.proofs.Common.{◌≡◌, ℕ, zero, suc, ◌+◌, ◌-◌, ◌*◌, ◌/◌, ◌%◌, ◌^◌, ◌<◌, ◌≤◌, [], ◌∷◌, ◌++◌, length, sym, refl, ap, ◌∙◌, pow-add, pow-suc, add-one, arith}
+use Rattle.std.proofs.Math.Nat.{div-div-eq-div-mul, div-eq_of_lt, pow-le-pow_right}
 use Rattle.std.proofs.lemmas.List.{length_push, same_from_push}
 use Rattle.std.proofs.lemmas.Bool.Decides.{nat_tests}
 use Rattle.std.specs.List.{AllByRecursion}
@@ -54,3 +55,21 @@ digits_hex (suc k) v = All-push IsDigit (hex k (v / 16)) _ (digits_hex k (v / 16
 
 pub digit_high : (b : ℕ) → IsDigit b → 48 ≤ b
 digit_high b (d, h, e) = grind (arith, nat_tests)
+
+-- a digit has four bits
+pub four_bits : (n : ℕ) → 2 ^ (4 * n) ≡ 16 ^ n
+four_bits zero = refl
+four_bits (suc n) =
+    let e : 4 * suc n ≡ 4 * n + 4 = omega arith in
+    ap (λ k. 2 ^ k) e ∙ pow-add 2 (4 * n) 4 ∙ ap (λ k. k * 16) (four_bits n) ∙ sym (pow-suc 16 n)
+
+-- no more than eight digits tell anything of 32 bits
+pub none_left : (v n : ℕ) → v < 2 ^ 32 → 8 ≤ n → v / 16 ^ n ≡ 0
+none_left v n h k = div-eq_of_lt (let p : 16 ^ 8 ≤ 16 ^ n = pow-le-pow_right (omega arith) k in omega arith)
+
+-- the digits down to one place are those above it, and the one there
+pub hex_down : (w p v : ℕ) → p < w → hex (w - p) (v / 16 ^ p) ≡ hex (w - (p + 1)) (v / 16 ^ (p + 1)) ++ digit (v / 16 ^ p % 16) ∷ []
+hex_down w p v h =
+    let less : w - p - 1 ≡ w - (p + 1) = omega arith in
+    let more : v / 16 ^ p / 16 ≡ v / 16 ^ (p + 1) = div-div-eq-div-mul v (16 ^ p) 16 ∙ ap (λ k. v / k) (sym (ap (λ k. 16 ^ k) (add-one p) ∙ pow-suc 16 p)) in
+    hex_last (w - p) (v / 16 ^ p) (omega arith) ∙ (λ i. hex (less i) (more i) ++ digit (v / 16 ^ p % 16) ∷ [])

@@ -2,7 +2,7 @@
 // `figures` asks that none is above 8, and `put_figures` asks for room.
 #![tactic(auto)]
 
-ghost use Rattle.std.specs.Prelude.{◌≡◌, ◌^◌, ◌<◌, ◌≤◌, length, MatchBool, sum, MatchOption};
+ghost use Rattle.std.specs.Prelude.{◌≡◌, ◌/◌, ◌^◌, ◌<◌, ◌≤◌, length, MatchBool, sum, MatchOption};
 ghost use Rattle.std.specs.List.{AllByRecursion};
 ghost use Rattle.buffer.specs.Cursor.{rest, Appends};
 ghost use Rattle.hexa.specs.Hex.{digit, hex, hexes, Digits, NoDigit, NoDigits, BadDigits, Writable};
@@ -64,15 +64,21 @@ pub fn put_figures<const N: usize>(out: &mut Cursor, widths: [usize; N], values:
     }
 }
 
-// The digits before the last, and then the last: as many calls deep as there are digits.
+// The digits from the first one on.
 fn put_hex(out: &mut Cursor, width: usize, value: u32)
     requires { width ≤ length (rest out.old) }
     ensures { Appends (hex width value) out.old out.new }
 {
-    if width > 0 {
-        put_hex(out, width - 1, value / 16);
-        out.push(digit_of((value % 16) as u8));
+    for place in (0..width).rev() {
+        out.push(digit_of((without(value, place) % 16) as u8));
     }
+}
+
+// The value without its last digits, so many of them. No value has more than eight.
+fn without(value: u32, digits: usize) -> u32
+    ensures { result ≡ value / 16 ^ digits }
+{
+    if digits < 8 { value >> (4 * digits) } else { 0 }
 }
 
 fn digit_of(v: u8) -> u8

@@ -53,7 +53,8 @@ impl<'a> Iterator for LineReader<'a> {
         }
         let rest = &self.text[at..];
         let len = rest.iter().position(|&b| b == b'\n').unwrap_or(rest.len());
-        self.at = (at + len + 1).min(self.text.len());
+        let end = at + len;
+        self.at = if end < self.text.len() { end + 1 } else { end };
         self.lines = self.lines.saturating_add(1);
         Some(Part {
             bytes: &rest[..len],

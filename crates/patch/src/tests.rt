@@ -68,6 +68,26 @@ fn sheet_of_a_pair(rt: HostRuntime) -> Result<(), Fail> {
     Ok(())
 }
 
+fn ticks_of(sheet: Sheet) -> u32 {
+    sheet.ticks()
+}
+
+// A sheet is passed by value and used again, and its copy stays when it is read over.
+#[test]
+fn copied(rt: HostRuntime) -> Result<(), Fail> {
+    let mut sheet = Sheet::blank();
+    assert!(rt; read(PAIR, &mut sheet).is_ok());
+    assert_eq!(rt; ticks_of(sheet), 12);
+    let copy = sheet;
+    assert!(rt; read(b"P01\nS000000000500000000FF00\nG000000000001\n", &mut sheet).is_ok());
+    assert_eq!(rt; sheet.count(), 1);
+    assert_eq!(rt; copy.count(), 2);
+    assert_eq!(rt; copy.ticks(), 12);
+    assert!(rt; copy.clone()? == copy);
+    assert!(rt; copy != sheet);
+    Ok(())
+}
+
 // The blank sheet's text has 44 bytes; a buffer of 43 keeps what it had.
 #[test]
 fn blank_sheet(rt: HostRuntime) {

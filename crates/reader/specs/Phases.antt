@@ -1,7 +1,9 @@
 -- How far a reader has come in a text, and how each phase ends: at its last frame, or at the text's first fault.
 use Rattle.std.specs.Prelude.{◌≡◌, ℕ, ◌≤◌, List, [], ◌∷◌, ◌++◌, length, drop, Ok, Err, Result}
 use Rattle.std.specs.List.{All}
-use Rattle.arrayvec.specs.ArrayVec.{ArrayVec}
+use Rattle.fixedvec.specs.Items.{items}
+use Rattle.fixedvec.specs.declared.Blank.{Ghosts}
+use Rattle.fixedvec.specs.declared.FixedVec.{FixedVec}
 use Rattle.frames.specs.Faults.{Extent, Fault}
 use Rattle.frames.specs.Frames.{Frame, count, text}
 use Rattle.frames.specs.Rules.{Lawful}
@@ -31,15 +33,15 @@ pub record Units (t : List ℕ) (c k : ℕ) (us : List UnitFigures) (later : Lin
   pub many : length us ≡ k
   pub placed : All Placed us
 
-abbrev pub UnitsRead : List ℕ → ℕ → Result (ArrayVec UnitFigures) TextFault → LineReader → Type 0
-UnitsRead t c (Ok units) later = Units t c c units.items later
+abbrev pub UnitsRead : {b : Ghosts UnitFigures} → List ℕ → ℕ → Result (FixedVec UnitFigures 64 b) TextFault → LineReader → Type 0
+UnitsRead t c (Ok units) later = Units t c c (items units) later
 UnitsRead t c (Err f) later = Fault t f.refusal f.line
 
 -- all taps are read below these units, and then the last frame
 pub record Ended (t : List ℕ) (us : List UnitFigures) (e : Ending) (later : LineReader) : Type 0 where
-  pub room : length e.plugs.items ≤ 320
-  pub sourced : All (HasSource (length us)) e.plugs.items
-  pub reading : Reading later t (frames us e.plugs.items e.ticks e.step)
+  pub room : length (items e.plugs) ≤ 320
+  pub sourced : All (HasSource (length us)) (items e.plugs)
+  pub reading : Reading later t (frames us (items e.plugs) e.ticks e.step)
 
 abbrev pub TapsRead : List ℕ → List UnitFigures → Result Ending TextFault → LineReader → Type 0
 TapsRead t us (Ok e) later = Ended t us e later

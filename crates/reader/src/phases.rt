@@ -5,19 +5,19 @@ ghost use Rattle.sheet.specs.Patches.{unit_frames};
 ghost use Rattle.unit.specs.declared.refusal.Refusal.TheVariants.{FrameOrder};
 ghost use Rattle.reader.specs.Phases.{Reading, CountRead, UnitsRead, TapsRead};
 
-use arrayvec::ArrayVec;
 use entries::latest::Latest;
 use entries::tails::tail_entry;
 use entries::taps::Tail;
 use entries::units::{count_entry, unit_entry};
+use fixedvec::FixedVec;
 use lines::reader::LineReader;
 use sheet::parts::{Plug, UnitFigures};
 use unit::refusal::{Refusal, TextFault};
 
 // How a text ends, below its units: the taps, and the figures of the last frame.
-#[derive(Clone, PartialEq, Eq, Debug, Drop)]
+#[derive(Clone, Copy, PartialEq, Eq, Debug)]
 pub struct Ending {
-    pub plugs: ArrayVec<Plug, 320>,
+    pub plugs: FixedVec<Plug, 320>,
     pub ticks: u32,
     pub step: u32,
 }
@@ -54,11 +54,11 @@ pub fn read_count(lines: &mut LineReader) -> Result<u8, TextFault>
 }
 
 // The units, each from a line of its own.
-pub fn read_units(lines: &mut LineReader, count: u8) -> Result<ArrayVec<UnitFigures, 64>, TextFault>
+pub fn read_units(lines: &mut LineReader, count: u8) -> Result<FixedVec<UnitFigures, 64>, TextFault>
     requires { Reading lines.old lines.old.text.now (unit_frames count [] 0) }
     ensures { UnitsRead lines.old.text.now count result lines.new }
 {
-    let mut units = ArrayVec::new();
+    let mut units = FixedVec::new();
     // no index: `next` is the number that the unit must have
     for next in 0..count {
         let line = lines.next().ok_or(missing(lines))?;
@@ -76,7 +76,7 @@ pub fn read_taps(lines: &mut LineReader, units: &[UnitFigures]) -> Result<Ending
 {
     let count = units.len() as u8;
     let mut latest = Latest::start();
-    let mut plugs = ArrayVec::new();
+    let mut plugs = FixedVec::new();
     // no `for`, since the lines are asked how many were read, in the loop and after it
     while let Some(line) = lines.next() {
         let read = lines.lines();

@@ -32,7 +32,7 @@ pub fn parsed(text: &[u8]) -> Result<Sheet, TextFault>
     let mut lines = LineReader::new(text);
     let count = read_count(&mut lines)?;
     let units = read_units(&mut lines, count)?;
-    let Ending { plugs, ticks, step } = read_taps(&mut lines, &units)?;
+    let Ending { plugs, ticks, step } = read_taps(&mut lines, units.as_slice())?;
     if lines.next().is_some() {
         return Err(wrong(lines.lines(), Refusal::FrameOrder));
     }

@@ -1,11 +1,13 @@
 -- Sheets that are written in the same frames are equal.
 use Rattle.std.proofs.Common.{◌≡◌, ℕ, zero, suc, ◌<◌, ◌≤◌, true, List, length, get_or, ℤ, nat_abs, sym, refl, ap, ◌∙◌, subst, ⊎_elim, arith, w32, SFits, to_z, of_z}
 use base.Stored.{Coded-set}
+use denote.Param.{number}
 use denote.Struct.Record.{values_one}
 use Rattle.std.proofs.lemmas.List.{ext_get_or}
 use Rattle.std.proofs.lemmas.Int.{ints, to_z-of_z}
 use Rattle.std.proofs.lemmas.Bool.{and_parts, cases_lt, ltb-true}
-use Rattle.arrayvec.specs.ArrayVec.{array_vec_code}
+use Rattle.std.specs.Coded.{coded_list}
+use Rattle.fixedvec.proofs.SameItems.{same_items}
 use Rattle.frames.specs.Frames.{Frame}
 use Rattle.frames.specs.Rules.{counted}
 use Rattle.layers.specs.Turns.{figure_of as sense_figure}
@@ -20,6 +22,7 @@ use Rattle.wires.specs.declared.tap.Sign.TheVariants.{Plus, Minus}
 use Rattle.sheet.specs.Patches.{largest_position, unit_frame, make_frame, tap_frame, unit_frames, tap_frames, blank_unit, blank_plug}
 use Rattle.sheet.specs.Texts.{frames_of}
 use Rattle.sheet.specs.Views.{units_of, taps_of}
+use Rattle.fixedvec.specs.contracts.FixedVec as vector
 use Rattle.sheet.specs.contracts.parts.Plug as plug
 use Rattle.sheet.specs.contracts.parts.UnitFigures as unit
 use Rattle.sheet.specs.contracts.sheet.Sheet as sheet
@@ -120,7 +123,9 @@ one_sheet r s e =
     let u = units_apart (length vs) us vs (length vs) (subst (λ n. unit_frames n us n ≡ unit_frames (length vs) vs (length vs)) count p.0) in
     let units : us ≡ vs = ext_get_or blank_unit us vs count (λ i h. same_unit i (get_or us i blank_unit) (get_or vs i blank_unit) (r.placed i blank_unit h) (s.placed i blank_unit (omega arith)) (u i (omega arith))) in
     let plugs : ps ≡ qs = ext_get_or blank_plug ps qs taps (λ i h. same_plug (length vs) (get_or ps i blank_plug) (get_or qs i blank_plug) (subst (λ n. there n (get_or ps i blank_plug).tap.source ≡ true) count (r.sourced i blank_plug h)) (s.sourced i blank_plug (omega arith)) (p.1 i (omega arith))) in
-    values_one struct (the_propositions (array_vec_code (unit.the_row).coded) (unit.the_row).coded (array_vec_code (plug.the_row).coded) (plug.the_row).coded) r s (λ i. (record { items = units i }, (record { items = plugs i }, (ticks i, (step i, tt)))))
+    let units_one : r.units ≡ s.units = same_items (Coded-set (coded_list (unit.the_row).coded)) r.units s.units units in
+    let plugs_one : r.plugs ≡ s.plugs = same_items (Coded-set (coded_list (plug.the_row).coded)) r.plugs s.plugs plugs in
+    values_one struct (the_propositions (vector.the_row unit.the_row (number 64) _).coded (unit.the_row).coded (vector.the_row plug.the_row (number 320) _).coded (plug.the_row).coded) r s (λ i. (units_one i, (plugs_one i, (ticks i, (step i, tt)))))
 
 pub sheet_set : (r s : Sheet) → IsProp (r ≡ s)
 sheet_set r s = Coded-set (sheet.the_row).coded r s

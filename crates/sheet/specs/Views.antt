@@ -1,5 +1,6 @@
 -- What a sheet tells of its units and taps.
 use Rattle.std.specs.Prelude.{◌≡◌, ℕ, ◌<◌, ◌≤◌, List, [], ◌∷◌, length, Some, None, filter, Option, nat_eq, slice_index_or}
+use Rattle.fixedvec.specs.Items.{items}
 use Rattle.sheet.specs.Patches.{blank_unit}
 use Rattle.sheet.specs.declared.parts.Plug.{Plug}
 use Rattle.sheet.specs.declared.parts.UnitFigures.{UnitFigures}
@@ -7,11 +8,11 @@ use Rattle.sheet.specs.declared.sheet.Sheet.{Sheet}
 
 -- the units of the sheet, by their numbers
 abbrev pub units_of : Sheet → List UnitFigures
-units_of s = s.units.items
+units_of s = items s.units
 
 -- the taps of the sheet, in the order of its text
 abbrev pub taps_of : Sheet → List Plug
-taps_of s = s.plugs.items
+taps_of s = items s.plugs
 
 -- one upright integrator of length 1, no taps, no ticks, step 1
 pub record Blank (s : Sheet) : Type 0 where

@@ -1,4 +1,5 @@
 // What a sheet says of one unit and of one tap.
+use fixedvec::Blank;
 use layers::turn::Sense;
 use wires::source::Source;
 use wires::tap::{Input, Sign, Tap};
@@ -39,6 +40,16 @@ impl Default for UnitFigures {
     }
 }
 
+impl Blank for UnitFigures {
+    ghost use Rattle.sheet.specs.Patches.{blank_unit};
+
+    ghost blank = { blank_unit };
+
+    fn blank() -> Self {
+        UnitFigures::default()
+    }
+}
+
 // A tap, and the unit and the input that it is plugged into.
 #[derive(Clone, Copy, PartialEq, Eq, Debug)]
 pub struct Plug {
@@ -63,5 +74,15 @@ impl Default for Plug {
                 source: Source::Place(0),
             },
         }
+    }
+}
+
+impl Blank for Plug {
+    ghost use Rattle.sheet.specs.Patches.{blank_plug};
+
+    ghost blank = { blank_plug };
+
+    fn blank() -> Self {
+        Plug::default()
     }
 }

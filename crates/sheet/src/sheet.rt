@@ -1,24 +1,25 @@
 ghost use Rattle.std.specs.Prelude.{◌≡◌, ◌≤◌, length};
 ghost use Rattle.std.specs.List.{All};
 ghost use Rattle.frames.specs.Rules.{Lawful};
+ghost use Rattle.fixedvec.specs.Items.{items};
 ghost use Rattle.sheet.specs.Patches.{frames, LawfulPatch, Placed, HasSource};
 
 use crate::parts::{Plug, UnitFigures};
-use arrayvec::ArrayVec;
+use fixedvec::FixedVec;
 use std::alloc::AllocError;
 
 // A patch sheet. Its frames keep all the rules of a patch text (`lawful`); positions and sources are those that the numbers in the
 // frames stand for (`placed`, `sourced`); and `room` is the capacity of the taps, which their value in a clause does not show.
-#[derive(PartialEq, Eq, Debug, Drop)]
+#[derive(Copy, PartialEq, Eq, Debug)]
 pub struct Sheet {
-    units: ArrayVec<UnitFigures, 64>,
-    plugs: ArrayVec<Plug, 320>,
+    units: FixedVec<UnitFigures, 64>,
+    plugs: FixedVec<Plug, 320>,
     ticks: u32,
     step: u32,
-    ghost room: { length plugs.items ≤ 320 },
-    ghost lawful: { ∥ Lawful (frames units.items plugs.items ticks step) ∥₁ },
-    ghost placed: { All Placed units.items },
-    ghost sourced: { All (HasSource (length units.items)) plugs.items },
+    ghost room: { length (items plugs) ≤ 320 },
+    ghost lawful: { ∥ Lawful (frames (items units) (items plugs) ticks step) ∥₁ },
+    ghost placed: { All Placed (items units) },
+    ghost sourced: { All (HasSource (length (items units))) (items plugs) },
 }
 
 impl Sheet {
@@ -29,11 +30,11 @@ impl Sheet {
     pub fn blank() -> Sheet
         ensures { Blank result }
     {
-        let mut units = ArrayVec::new();
+        let mut units = FixedVec::new();
         units.push(UnitFigures::default());
         Sheet {
             units,
-            plugs: ArrayVec::new(),
+            plugs: FixedVec::new(),
             ticks: 0,
             step: 1,
         }
@@ -41,13 +42,13 @@ impl Sheet {
 
     // The sheet of a patch that is known to be lawful; for the reader of patch texts.
     pub fn of_parts(
-        units: ArrayVec<UnitFigures, 64>,
-        plugs: ArrayVec<Plug, 320>,
+        units: FixedVec<UnitFigures, 64>,
+        plugs: FixedVec<Plug, 320>,
         ticks: u32,
         step: u32,
     ) -> Sheet
-        requires { LawfulPatch units.items plugs.items ticks step }
-        ensures { frames_of result ≡ frames units.items plugs.items ticks step }
+        requires { LawfulPatch (items units) (items plugs) ticks step }
+        ensures { frames_of result ≡ frames (items units) (items plugs) ticks step }
     {
         Sheet {
             units,
@@ -61,28 +62,28 @@ impl Sheet {
     pub fn count(&self) -> u8
         ensures { result ≡ length (units_of self.now) }
     {
-        self.units.len() as u8
+        self.units().len() as u8
     }
 
     // The figures of one unit, if the patch has it.
     pub fn unit(&self, unit: u8) -> Option<UnitFigures>
         ensures { UnitTold self.now unit result }
     {
-        self.units.get(unit as usize).copied()
+        self.units().get(unit as usize).copied()
     }
 
     // The figures of all units, by their numbers.
     pub fn units(&self) -> &[UnitFigures]
         ensures { result.now ≡ units_of self.now }
     {
-        &self.units
+        self.units.as_slice()
     }
 
     // All taps, by rising unit, and a unit's x tap first.
     pub fn taps(&self) -> &[Plug]
         ensures { result.now ≡ taps_of self.now }
     {
-        &self.plugs
+        self.plugs.as_slice()
     }
 
     // The taps of one unit, its x tap first.
@@ -110,7 +111,7 @@ impl Sheet {
     }
 }
 
-// Written out, since none can be derived beside a ghost field for a type that is not `Copy`. It allocates nothing.
+// Written out beside `Copy`, with the clause that a copy is the same sheet.
 impl Clone for Sheet {
     ghost use Rattle.std.specs.Prelude.{⊤};
 
@@ -119,11 +120,6 @@ impl Clone for Sheet {
     ghost is_infallible = { λ _. ⊤ };
 
     fn clone(&self) -> Result<Self, AllocError> {
-        Ok(Sheet {
-            units: self.units.clone()?,
-            plugs: self.plugs.clone()?,
-            ticks: self.ticks,
-            step: self.step,
-        })
+        Ok(*self)
     }
 }

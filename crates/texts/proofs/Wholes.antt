@@ -4,11 +4,14 @@ use Rattle.std.specs.List.{All}
 use Rattle.std.proofs.lemmas.List.{get_or_past, length-replicate}
 use Rattle.std.proofs.lemmas.List.Elements.{All-append, All-replicate}
 use Rattle.std.proofs.lemmas.Bool.{cases_lt}
+use Rattle.fixedvec.specs.Items.{items}
+use Rattle.fixedvec.proofs.Places.{vector_of}
 use Rattle.frames.specs.Frames.{Frame, count, integrator, last}
 use Rattle.frames.specs.Rules.{Lawful, Keeps, UnitsStand, counted, how_many, is_last}
 use Rattle.frames.proofs.Counts.{counted_few, counted_some, ends}
 use Rattle.sheet.specs.Patches.{unit_frame, unit_frames, tap_frames, frames, blank_unit, Placed, HasSource}
 use Rattle.sheet.specs.Texts.{frames_of}
+use Rattle.sheet.specs.declared.parts.Plug.{Plug}
 use Rattle.sheet.specs.declared.parts.UnitFigures.{UnitFigures}
 use Rattle.sheet.specs.declared.sheet.Sheet.{Sheet}
 use Rattle.sheet.proofs.Counting.{units_counted, units_many, units_open, taps_counted, taps_units, taps_open}
@@ -110,18 +113,23 @@ whole a d h low t q l =
     } in
     let same : unit_frames (length (filled d)) (filled d) (length (filled d)) ≡ base = (λ i. unit_frames (length-filled d i) (filled d) (length-filled d i)) ∙ filled_frames d.c d.us (d.c - length d.us) d.c in
     let is : frames (filled d) d.ps t q ≡ last t q ∷ all = ap (λ us. last t q ∷ tap_frames us d.ps (length d.ps)) same in
+    let v = vector_of (filled d) (subst (λ c. c ≤ 64) (sym (length-filled d)) most) in
+    let w = vector_of d.ps d.room in
+    let written : frames (items v.0) (items w.0) t q ≡ last t q ∷ all = (λ i. frames (v.1 i) (w.1 i) t q) ∙ is in
+    let placed = All-append Placed d.us (replicate (d.c - length d.us) blank_unit) d.placed (All-replicate Placed (d.c - length d.us) blank_unit (omega arith)) in
+    let sourced = subst (λ c. All (HasSource c) d.ps) (sym (length-filled d)) d.sourced in
     let lawful : Lawful (last t q ∷ all) = ((wired a d h most).lawful, record { expected = stand; fits = (l.ticks, (l.step, tt)); ordered = tt; ranged = l.some; sourced = tt }) in (
       record {
-        units = record { items = filled d };
-        plugs = record { items = d.ps };
+        units = v.0;
+        plugs = w.0;
         ticks = t;
         step = q;
-        room = d.room;
-        lawful = ∣ subst Lawful (sym is) lawful ∣₁;
-        placed = All-append Placed d.us (replicate (d.c - length d.us) blank_unit) d.placed (All-replicate Placed (d.c - length d.us) blank_unit (omega arith));
-        sourced = subst (λ c. All (HasSource c) d.ps) (sym (length-filled d)) d.sourced;
+        room = subst (λ (ps : List Plug). length ps ≤ 320) (sym w.1) d.room;
+        lawful = ∣ subst Lawful (sym written) lawful ∣₁;
+        placed = subst (All Placed) (sym v.1) placed;
+        sourced = subst (λ (us : List UnitFigures). All (HasSource (length us)) (items w.0)) (sym v.1) (subst (All (HasSource (length (filled d)))) (sym w.1) sourced);
       },
-      is,
+      written,
     )
 
 first_step : Lasts 0 1

@@ -3,6 +3,7 @@ use Rattle.std.specs.Result.{MatchResult}
 use Rattle.std.proofs.lemmas.Result.{MatchResult-at_ok, MatchResult-at_err}
 use Rattle.entries.specs.Entries.{TailEntry}
 use Rattle.entries.specs.declared.taps.Tail.{Tail}
+use Rattle.fixedvec.specs.Items.{items}
 use Rattle.frames.specs.Faults.{Fault}
 use Rattle.frames.specs.Frames.{last}
 use Rattle.sheet.specs.Patches.{unit_frames, tap_frames}
@@ -22,13 +23,13 @@ loop-line-init c = rw c.new-plugs.ensures (start _ c.args.units.now _ _ _ c.requ
 abbrev Said : After-map_err → Tail → Type 0
 Said c tail =
     let us = c.args.units.now in
-    let ps = c.loop-line.plugs.items in
+    let ps = items c.loop-line.plugs in
     TailEntry (tap_frames (unit_frames (length us) us (length us)) ps (length ps)) (length us) (length ps) c.in-Some.line.bytes.now (Ok tail)
 
 entry : (c : After-map_err) → MatchResult c.map_err.result (Said c) (λ f. Fault c.args.lines.now.text.now f.refusal f.line)
 entry c =
     let us = c.args.units.now in
-    let ps = c.loop-line.plugs.items in
+    let ps = items c.loop-line.plugs in
     let above = tap_frames (unit_frames (length us) us (length us)) ps (length ps) in
     entry_or_wrong c.loop-line.invariant.reading c.in-Some.ensures.steps (TailEntry above (length us) (length ps) c.in-Some.line.bytes.now) (λ e h. h) c.tail_entry.result c.map_err.result _ c.map_err.ensures.cases
     (c.tail_entry.ensures above (length ps) (wanted c.loop-line.invariant)) (λ e f w. search (rules, of_calls))
@@ -51,7 +52,7 @@ push-requires c =
     search (rules, h)
 
 pub loop-line-preserved : goal.loop-line-preserved
-loop-line-preserved c = rw c.push.ensures.items (tap_more c.loop-line.invariant c.in-Some.ensures.steps _ _ (said (goal.at.loop-line-preserved c).After-map_err _ _ c.in_ok-tail.was c.in-Tap.is))
+loop-line-preserved c = rw c.push.ensures (tap_more c.loop-line.invariant c.in-Some.ensures.steps _ _ (said (goal.at.loop-line-preserved c).After-map_err _ _ c.in_ok-tail.was c.in-Tap.is))
 
 pub returns : goal.returns
 returns c = missing_told c.loop-line.invariant.reading None _ c.missing.result c.missing.result c.in_default.ensures.steps refl (open_end c.loop-line.invariant) c.missing.ensures.refusal c.missing.ensures.line
