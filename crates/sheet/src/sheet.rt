@@ -9,7 +9,7 @@ use fixedvec::FixedVec;
 use std::alloc::AllocError;
 
 // A patch sheet. Its frames keep all the rules of a patch text (`lawful`); positions and sources are those that the numbers in the
-// frames stand for (`placed`, `sourced`); and `room` is the capacity of the taps, which their value in a clause does not show.
+// frames stand for (`placed`, `sourced`); and `room` says how many taps there may be, as the vector of taps does by its capacity.
 #[derive(Copy, PartialEq, Eq, Debug)]
 pub struct Sheet {
     units: FixedVec<UnitFigures, 64>,
