@@ -1,6 +1,6 @@
 -- What a vector of a fixed capacity holds.
 use Rattle.std.specs.Prelude.{ℕ, List, take}
-use Rattle.fixedvec.specs.declared.Blank.{Ghosts}
+use Rattle.fixedvec.specs.declared.Filler.{Ghosts}
 use Rattle.fixedvec.specs.declared.FixedVec.{FixedVec}
 
 -- the items, in order

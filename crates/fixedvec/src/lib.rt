@@ -7,24 +7,24 @@ ghost use Rattle.std.specs.Prelude.{◌≡◌, ◌-◌, ◌<◌, ◌≤◌, [], 
 use std::alloc::AllocError;
 
 // What an unused place holds.
-pub trait Blank: Copy {
-    ghost blank: { Self };
+pub trait Filler: Copy {
+    ghost filler: { Self };
 
-    fn blank() -> Self
-        ensures { result ≡ blank };
+    fn filler() -> Self
+        ensures { result ≡ filler };
 }
 
-// At most `CAP` items. Unused places are blank, so that vectors of the same items are equal.
+// At most `CAP` items. Unused places hold the filler, so that vectors of the same items are equal.
 #[derive(Copy, PartialEq, Eq, Debug)]
-pub struct FixedVec<T: Blank, const CAP: usize> {
+pub struct FixedVec<T: Filler, const CAP: usize> {
     places: [T; CAP],
     len: usize,
     ghost few: { len ≤ CAP },
     ghost full: { length places ≡ CAP },
-    ghost spare: { drop len places ≡ replicate (CAP - len) T.blank },
+    ghost spare: { drop len places ≡ replicate (CAP - len) T.filler },
 }
 
-impl<T: Blank, const CAP: usize> FixedVec<T, CAP> {
+impl<T: Filler, const CAP: usize> FixedVec<T, CAP> {
     ghost use Rattle.fixedvec.specs.Items.{items};
 
     // No items.
@@ -32,7 +32,7 @@ impl<T: Blank, const CAP: usize> FixedVec<T, CAP> {
         ensures { items result ≡ [] }
     {
         FixedVec {
-            places: [T::blank(); CAP],
+            places: [T::filler(); CAP],
             len: 0,
         }
     }
@@ -47,6 +47,7 @@ impl<T: Blank, const CAP: usize> FixedVec<T, CAP> {
         self.len = len + 1;
     }
 
+    // The items, without the unused places.
     pub fn as_slice(&self) -> &[T]
         ensures items { result.now ≡ items self.now }
         ensures fits { length result.now ≤ CAP }
@@ -56,7 +57,7 @@ impl<T: Blank, const CAP: usize> FixedVec<T, CAP> {
 }
 
 // `Copy` asks for a `Clone`, and none can be derived for a generic struct with a ghost field.
-impl<T: Blank, const CAP: usize> Clone for FixedVec<T, CAP> {
+impl<T: Filler, const CAP: usize> Clone for FixedVec<T, CAP> {
     ghost use Rattle.std.specs.Prelude.{⊤};
 
     ghost is_clone = { λ v w. w ≡ v };

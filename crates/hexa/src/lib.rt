@@ -70,12 +70,12 @@ fn put_hex(out: &mut Cursor, width: usize, value: u32)
     ensures { Appends (hex width value) out.old out.new }
 {
     for place in (0..width).rev() {
-        out.push(digit_of((without(value, place) % 16) as u8));
+        out.push(digit_of((without_last(value, place) % 16) as u8));
     }
 }
 
-// The value without its last digits, so many of them. No value has more than eight.
-fn without(value: u32, digits: usize) -> u32
+// The value without its last `digits` digits. No value has more than eight.
+fn without_last(value: u32, digits: usize) -> u32
     ensures { result ≡ value / 16 ^ digits }
 {
     if digits < 8 { value >> (4 * digits) } else { 0 }

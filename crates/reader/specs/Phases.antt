@@ -2,7 +2,7 @@
 use Rattle.std.specs.Prelude.{◌≡◌, ℕ, ◌≤◌, List, [], ◌∷◌, ◌++◌, length, drop, Ok, Err, Result}
 use Rattle.std.specs.List.{All}
 use Rattle.fixedvec.specs.Items.{items}
-use Rattle.fixedvec.specs.declared.Blank.{Ghosts}
+use Rattle.fixedvec.specs.declared.Filler.{Ghosts}
 use Rattle.fixedvec.specs.declared.FixedVec.{FixedVec}
 use Rattle.frames.specs.Faults.{Extent, Fault}
 use Rattle.frames.specs.Frames.{Frame, count, text}

@@ -1,5 +1,5 @@
 // What a sheet says of one unit and of one tap.
-use fixedvec::Blank;
+use fixedvec::Filler;
 use layers::turn::Sense;
 use wires::source::Source;
 use wires::tap::{Input, Sign, Tap};
@@ -40,12 +40,12 @@ impl Default for UnitFigures {
     }
 }
 
-impl Blank for UnitFigures {
+impl Filler for UnitFigures {
     ghost use Rattle.sheet.specs.Patches.{blank_unit};
 
-    ghost blank = { blank_unit };
+    ghost filler = { blank_unit };
 
-    fn blank() -> Self {
+    fn filler() -> Self {
         UnitFigures::default()
     }
 }
@@ -77,12 +77,12 @@ impl Default for Plug {
     }
 }
 
-impl Blank for Plug {
+impl Filler for Plug {
     ghost use Rattle.sheet.specs.Patches.{blank_plug};
 
-    ghost blank = { blank_plug };
+    ghost filler = { blank_plug };
 
-    fn blank() -> Self {
+    fn filler() -> Self {
         Plug::default()
     }
 }

@@ -52,7 +52,7 @@ fn expanded(heap: Global, line: &[u8]) -> Result<Vec<u8>, AllocError> {
     let mut text = Vec::new(heap);
     let mut state = State::Plain;
     for &byte in line {
-        // most bytes stand once, and one is pushed in less time than as a row of one
+        // pushed where it stands once, as most bytes do: `extend` by one takes longer
         match times(state, byte) {
             1 => text.push(plain(byte))?,
             n => text.extend(iter::repeat_n(plain(byte), n))?,

@@ -14,4 +14,4 @@ push-requires c = omega (arith, length-rest c.loop-place.invariant, length-hex (
 pub loop-place-preserved : goal.loop-place-preserved
 loop-place-preserved c =
     let e : c.loop-place.place - 1 + 1 ≡ c.loop-place.place = omega arith in
-    rw (hex_down c.args.width (c.loop-place.place - 1) c.args.value (omega arith), e, ← c.without.ensures, ← c.digit_of.ensures) (then c.loop-place.invariant c.push.ensures)
+    rw (hex_down c.args.width (c.loop-place.place - 1) c.args.value (omega arith), e, ← c.without_last.ensures, ← c.digit_of.ensures) (then c.loop-place.invariant c.push.ensures)

@@ -1,6 +1,6 @@
 use Rattle.std.proofs.Common.{ap, sym, ◌/◌, arith}
 use Rattle.hexa.proofs.Digits.{four_bits, none_left}
-use Rattle.hexa.proofs.without.Goals as goal
+use Rattle.hexa.proofs.without_last.Goals as goal
 
 pub returns-then-digits-lt8 : goal.returns-then-digits-lt8
 returns-then-digits-lt8 c = ap (λ k. c.args.value / k) (four_bits c.args.digits)
